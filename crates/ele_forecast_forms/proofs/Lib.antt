@@ -1,4 +1,4 @@
--- numbers one after another, and a line that isn't put
+-- a line that isn't put
 pub mod Words
 -- moments in equal steps, and what is counted at each
 pub mod Steps

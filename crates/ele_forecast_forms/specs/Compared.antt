@@ -1,12 +1,13 @@
 -- Several policies side by side: a line for each version, and one for each moment and policy.
-use Rattle.std.specs.Prelude.{ℕ, ◌-◌, List, [], ◌∷◌, ◌++◌, Option, Some, None, codes, decimal, length, slice_get}
+use Rattle.std.specs.Prelude.{ℕ, ◌-◌, List, [], ◌∷◌, ◌++◌, Option, Some, None, codes, decimal, slice_get}
 use Rattle.std.specs.List.{flat_map, range_with_len}
 use Rattle.ele_policy.specs.PolicyText.{policy_word}
 use Rattle.ele_policy.specs.declared.policy.Policy.{Policy}
 use Rattle.ele_forecast.specs.declared.forecast.Forecast.{Forecast}
-use Rattle.ele_forecast_text.specs.Details.{detail_headings, detail_words, total_words}
+use Rattle.ele_forecast_text.specs.Details.{detail_headings, detail_words}
 use Rattle.ele_forecast_text.specs.Plan.{versions_of}
 use Rattle.ele_forecast_text.specs.Stamp.{stamp_of, stamp_or}
+use Rattle.ele_forecast_text.specs.Table.{kept_text}
 use Rattle.ele_forecast_text.specs.Why.{spaced}
 use Rattle.ele_forecast_text.specs.declared.details.Details.{Details}
 use Rattle.ele_forecast_text.specs.declared.plan.Plan.{Plan}
@@ -43,12 +44,6 @@ version_columns details told =
 abbrev pub compared_line : Details → List Plan → Forecast → List ℕ
 compared_line details plans told =
     version_columns details told ++ (flat_map (due_column told.number) plans ++ codes "\n")
-
--- how many versions stay, their bytes if versions have sizes, and their numbers
-abbrev pub kept_text : Details → List ℕ → List ℕ
-kept_text details numbers =
-    (codes " stay " ++ decimal (length numbers))
-    ++ (spaced (total_words details numbers) ++ (codes ":" ++ (flat_map (λ number. 32 ∷ decimal number) numbers ++ codes "\n")))
 
 -- the line of a moment and a policy
 abbrev pub policy_staying : Details → Policy → Staying → List ℕ

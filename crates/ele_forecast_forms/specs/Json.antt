@@ -42,13 +42,11 @@ abbrev pub total_field : Details → List ℕ → List ℕ
 total_field details numbers = part_if details.columns.sizes (codes ",\"bytes\":" ++ decimal (bytes_of details.sizes.items numbers))
 
 -- the versions that stay at a moment: how many, their bytes and their numbers
-abbrev pub stay_text : Details → ℕ → List ℕ → List ℕ
-stay_text details at numbers =
-    codes "{\"moment\":" ++ (moment_text at ++ (codes ",\"count\":" ++ (decimal (length numbers) ++ (total_field details numbers
-    ++ (codes ",\"numbers\":[" ++ (join_with_byte 44 (map decimal numbers) ++ codes "]}"))))))
-
 abbrev pub staying_text : Details → Staying → List ℕ
-staying_text details staying = stay_text details staying.at staying.numbers.items
+staying_text details staying =
+    let numbers = staying.numbers.items in
+    codes "{\"moment\":" ++ (moment_text staying.at ++ ((codes ",\"count\":" ++ decimal (length numbers)) ++ (total_field details numbers
+    ++ (codes ",\"numbers\":[" ++ (join_with_byte 44 (map decimal numbers) ++ codes "]}")))))
 
 -- a plan: its policy, and the versions that stay at each of the moments
 abbrev pub plan_text : Details → Plan → List ℕ
@@ -78,7 +76,7 @@ size_field details number = part_if details.columns.sizes (codes ",\"bytes\":" +
 
 -- the number of a version, its label and its size
 abbrev pub version_fields : Details → ℕ → List ℕ
-version_fields details number = codes "\n{\"number\":" ++ (decimal number ++ (label_field details number ++ size_field details number))
+version_fields details number = (codes "\n{\"number\":" ++ decimal number) ++ (label_field details number ++ size_field details number)
 
 -- when it closed and when it ended
 abbrev pub life_fields : Forecast → List ℕ

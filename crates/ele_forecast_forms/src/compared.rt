@@ -1,9 +1,9 @@
 //! The versions of a file under several policies. A contract sees their text, and a printer as its outlet.
-ghost use Rattle.std.specs.Prelude.{◌≡◌, ◌∷◌, decimal};
+ghost use Rattle.std.specs.Prelude.{◌≡◌, ◌∷◌};
 ghost use Rattle.std.specs.List.{flat_map};
 ghost use Rattle.ele_output.specs.Prints.{Prints};
-ghost use Rattle.ele_forecast_forms.specs.Compared.{compared_heading, compared_line, compared_text, due_column, due_word, policy_column, version_columns};
-ghost use Rattle.ele_forecast_text.specs.Stamp.{stamp_of, stamp_or};
+ghost use Rattle.ele_forecast_forms.specs.Compared.{compared_line, compared_text, due_word, policy_column};
+ghost use Rattle.ele_forecast_text.specs.Stamp.{stamp_or};
 
 use crate::stayings::put_stayings;
 use ele_forecast::Forecast;
@@ -25,20 +25,16 @@ pub fn put_compared<W: Write>(
     ensures { Prints W.contents printer.old printer.new
         (compared_text details.now plans.now moments) }
 {
-    put_heading(details, plans, printer);
-    put_versions(details, plans, versions_of(plans), printer);
-    put_stayings(details, plans, moments, printer);
-}
-
-// Puts the heading.
-fn put_heading<W: Write>(details: &Details, plans: &[Plan], printer: &mut Printer<'_, W>)
-    ensures { Prints W.contents printer.old printer.new (compared_heading details.now plans.now) }
-{
     printer.put(b"version");
     put_headings(details, printer);
     printer.put(b" closed ended");
     put_policies(plans, printer);
     printer.put(b"\n");
+    let versions = versions_of(plans);
+    for version in versions {
+        put_version(details, plans, version, printer);
+    }
+    put_stayings(details, plans, moments, printer);
 }
 
 // Puts a space and the word of each policy.
@@ -46,34 +42,13 @@ pub(crate) fn put_policies<W: Write>(plans: &[Plan], printer: &mut Printer<'_, W
     ensures { Prints W.contents printer.old printer.new (flat_map policy_column plans.now) }
 {
     for plan in plans {
-        put_policy_column(plan, printer);
+        printer.put(b" ");
+        put_policy(&plan.policy, printer);
     }
 }
 
-// Puts a space and the word of a plan's policy.
-fn put_policy_column<W: Write>(plan: &Plan, printer: &mut Printer<'_, W>)
-    ensures { Prints W.contents printer.old printer.new (policy_column plan.now) }
-{
-    printer.put(b" ");
-    put_policy(&plan.policy, printer);
-}
-
-// Puts the line of each version.
-fn put_versions<W: Write>(
-    details: &Details,
-    plans: &[Plan],
-    forecasts: &[Forecast],
-    printer: &mut Printer<'_, W>,
-)
-    ensures { Prints W.contents printer.old printer.new
-        (flat_map (compared_line details.now plans.now) forecasts.now) }
-{
-    for forecast in forecasts {
-        put_version(details, plans, forecast, printer);
-    }
-}
-
-// Puts the line of a version.
+// Puts the line of a version: its number, its details, when it closed and ended, and the moment from which it may
+// be forgotten under each policy.
 fn put_version<W: Write>(
     details: &Details,
     plans: &[Plan],
@@ -83,27 +58,15 @@ fn put_version<W: Write>(
     ensures { Prints W.contents printer.old printer.new
         (compared_line details.now plans.now forecast.now) }
 {
-    put_columns(details, forecast, printer);
-    put_dues(forecast.number, plans, printer);
-    printer.put(b"\n");
-}
-
-// Puts the number of a version, its details, and when it closed and ended.
-fn put_columns<W: Write>(details: &Details, forecast: &Forecast, printer: &mut Printer<'_, W>)
-    ensures { Prints W.contents printer.old printer.new
-        (version_columns details.now forecast.now) }
-{
-    put_version_number(forecast.number, printer);
-    put_details(details, forecast.number, printer);
+    let number = forecast.number;
+    put_number(number.0, printer);
+    put_details(details, number, printer);
     put_word(&stamp_of(forecast.closed), printer);
     put_moment(forecast.ended, printer);
-}
-
-// Puts the number of a version.
-fn put_version_number<W: Write>(number: VersionNo, printer: &mut Printer<'_, W>)
-    ensures { Prints W.contents printer.old printer.new (decimal number) }
-{
-    put_number(number.0, printer);
+    for plan in plans {
+        put_moment(due(number, plan.forecasts.as_slice()), printer);
+    }
+    printer.put(b"\n");
 }
 
 // Puts a space and a moment, or `-` for none.
@@ -114,22 +77,6 @@ fn put_moment<W: Write>(moment: Option<Moment>, printer: &mut Printer<'_, W>)
         Some(moment) => put_word(&stamp_of(moment), printer),
         None => printer.put(b" -"),
     }
-}
-
-// Puts a space and the moment from which the version of that number may be forgotten, under each policy.
-fn put_dues<W: Write>(number: VersionNo, plans: &[Plan], printer: &mut Printer<'_, W>)
-    ensures { Prints W.contents printer.old printer.new (flat_map (due_column number) plans.now) }
-{
-    for plan in plans {
-        put_due(number, plan, printer);
-    }
-}
-
-// Puts a space and the moment from which the version of that number may be forgotten.
-fn put_due<W: Write>(number: VersionNo, plan: &Plan, printer: &mut Printer<'_, W>)
-    ensures { Prints W.contents printer.old printer.new (due_column number plan.now) }
-{
-    put_moment(due(number, plan.forecasts.as_slice()), printer);
 }
 
 // The moment from which the version of that number may be forgotten.

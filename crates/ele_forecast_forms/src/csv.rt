@@ -1,19 +1,15 @@
 //! A forecast as CSV. A contract sees its text, and a printer as its outlet.
-ghost use Rattle.std.specs.Prelude.{◌∷◌, Some, decimal};
-ghost use Rattle.std.specs.List.{flat_map};
+ghost use Rattle.std.specs.Prelude.{◌∷◌, Some};
 ghost use Rattle.ele_output.specs.Prints.{Prints};
-ghost use Rattle.ele_forecast_text.specs.Details.{size_of};
 ghost use Rattle.ele_forecast_text.specs.Labels.{name_of};
-ghost use Rattle.ele_forecast_forms.specs.Csv.{csv_text, doubled, fate_fields, fates_fields, heading_row, moment_field, policy_headings, quoted, version_fields, version_row};
+ghost use Rattle.ele_forecast_forms.specs.Csv.{csv_text, doubled, fate_fields, heading_row, moment_field, quoted, version_row};
 ghost use Rattle.ele_forecast_forms.specs.Parts.{forecast_of, part_if};
 
-use crate::parts::{put_part, put_version_number};
+use crate::parts::{put_part, put_size};
 use ele_forecast::Forecast;
-use ele_forecast_text::{
-    Details, Plan, name_of, put_policy, put_reason, size_of, stamp_of, versions_of,
-};
+use ele_forecast_text::{Details, Plan, name_of, put_policy, put_reason, stamp_of, versions_of};
 use ele_moment::{Moment, VersionNo};
-use ele_output::{Printer, put_with_number};
+use ele_output::{Printer, put_number};
 use ele_policy::Policy;
 use itoa::Buffer;
 use std::io::Write;
@@ -24,10 +20,13 @@ pub fn put_csv<W: Write>(details: &Details, plans: &[Plan], printer: &mut Printe
     ensures { Prints W.contents printer.old printer.new (csv_text details.now plans.now) }
 {
     put_heading(details, plans, printer);
-    put_rows(details, plans, versions_of(plans), printer);
+    let versions = versions_of(plans);
+    for version in versions {
+        put_row(details, plans, version, printer);
+    }
 }
 
-// Puts the heading.
+// Puts the heading, with two columns for each policy.
 fn put_heading<W: Write>(details: &Details, plans: &[Plan], printer: &mut Printer<'_, W>)
     ensures { Prints W.contents printer.old printer.new (heading_row details.now plans.now) }
 {
@@ -35,47 +34,18 @@ fn put_heading<W: Write>(details: &Details, plans: &[Plan], printer: &mut Printe
     put_part(details.columns.labels, b",label", printer);
     put_part(details.columns.sizes, b",bytes", printer);
     printer.put(b",closed,ended");
-    put_headings(plans, printer);
+    for plan in plans {
+        printer.put(b",\"due ");
+        put_policy(&plan.policy, printer);
+        printer.put(b"\",\"why ");
+        put_policy(&plan.policy, printer);
+        printer.put(b"\"");
+    }
     printer.put(b"\n");
 }
 
-// Puts the headings of each policy.
-fn put_headings<W: Write>(plans: &[Plan], printer: &mut Printer<'_, W>)
-    ensures { Prints W.contents printer.old printer.new
-        (flat_map (λ plan. policy_headings plan.policy) plans.now) }
-{
-    for plan in plans {
-        put_policy_headings(&plan.policy, printer);
-    }
-}
-
-// Puts the headings of a policy's two columns.
-fn put_policy_headings<W: Write>(policy: &Policy, printer: &mut Printer<'_, W>)
-    ensures { Prints W.contents printer.old printer.new (policy_headings policy.now) }
-{
-    printer.put(b",\"due ");
-    put_policy(policy, printer);
-    printer.put(b"\",\"why ");
-    put_policy(policy, printer);
-    printer.put(b"\"");
-}
-
-// Puts the row of each version.
-fn put_rows<W: Write>(
-    details: &Details,
-    plans: &[Plan],
-    versions: &[Forecast],
-    printer: &mut Printer<'_, W>,
-)
-    ensures { Prints W.contents printer.old printer.new
-        (flat_map (version_row details.now plans.now) versions.now) }
-{
-    for version in versions {
-        put_row(details, plans, version, printer);
-    }
-}
-
-// Puts the row of a version.
+// Puts the row of a version: its number, its label and its size, when it closed and ended, and what each plan
+// says of it.
 fn put_row<W: Write>(
     details: &Details,
     plans: &[Plan],
@@ -85,20 +55,16 @@ fn put_row<W: Write>(
     ensures { Prints W.contents printer.old printer.new
         (version_row details.now plans.now version.now) }
 {
-    put_version(details, version.number, printer);
+    let number = version.number;
+    put_number(number.0, printer);
+    put_label(details, number, printer);
+    put_size(b",", details, number, printer);
     put_moment(Some(version.closed), printer);
     put_moment(version.ended, printer);
-    put_fates(plans, version.number, printer);
+    for plan in plans {
+        put_fate(plan, number, printer);
+    }
     printer.put(b"\n");
-}
-
-// Puts the number of a version, its label and its size.
-fn put_version<W: Write>(details: &Details, number: VersionNo, printer: &mut Printer<'_, W>)
-    ensures { Prints W.contents printer.old printer.new (version_fields details.now number) }
-{
-    put_version_number(number, printer);
-    put_label(details, number, printer);
-    put_size(details, number, printer);
 }
 
 // Puts the label of a version, if versions have labels.
@@ -120,17 +86,10 @@ fn put_quoted<W: Write>(text: &[u8], printer: &mut Printer<'_, W>)
     ensures { Prints W.contents printer.old printer.new (44 ∷ quoted text.now) }
 {
     printer.put(b",\"");
-    put_doubled(text, printer);
-    printer.put(b"\"");
-}
-
-// Puts each byte, and each quotation mark twice.
-fn put_doubled<W: Write>(text: &[u8], printer: &mut Printer<'_, W>)
-    ensures { Prints W.contents printer.old printer.new (flat_map doubled text.now) }
-{
     for byte in text {
         put_byte(*byte, printer);
     }
+    printer.put(b"\"");
 }
 
 // Puts a byte, twice if it is a quotation mark.
@@ -143,17 +102,6 @@ fn put_byte<W: Write>(byte: u8, printer: &mut Printer<'_, W>)
     }
 }
 
-// Puts the size of a version, if versions have sizes.
-fn put_size<W: Write>(details: &Details, number: VersionNo, printer: &mut Printer<'_, W>)
-    ensures { Prints W.contents printer.old printer.new (part_if details.now.columns.sizes
-        (44 ∷ decimal (size_of details.now.sizes.items number))) }
-{
-    if details.columns.sizes {
-        let size = size_of(details.sizes.as_slice(), number);
-        put_with_number(b",", size, printer);
-    }
-}
-
 // Puts a comma and a moment, or nothing more for none.
 fn put_moment<W: Write>(moment: Option<Moment>, printer: &mut Printer<'_, W>)
     ensures { Prints W.contents printer.old printer.new (moment_field moment) }
@@ -161,15 +109,6 @@ fn put_moment<W: Write>(moment: Option<Moment>, printer: &mut Printer<'_, W>)
     printer.put_byte(b',');
     if let Some(moment) = moment {
         printer.put(&stamp_of(moment));
-    }
-}
-
-// Puts what each plan says of the version of that number.
-fn put_fates<W: Write>(plans: &[Plan], number: VersionNo, printer: &mut Printer<'_, W>)
-    ensures { Prints W.contents printer.old printer.new (fates_fields plans.now number) }
-{
-    for plan in plans {
-        put_fate(plan, number, printer);
     }
 }
 

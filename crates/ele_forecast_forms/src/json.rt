@@ -1,18 +1,18 @@
 //! A forecast as JSON. A contract sees its text, and a printer as its outlet.
-ghost use Rattle.std.specs.Prelude.{◌++◌, Some, codes, decimal, map};
+ghost use Rattle.std.specs.Prelude.{Some, decimal, map};
 ghost use Rattle.std.specs.List.{join_with_byte};
 ghost use Rattle.ele_output.specs.Prints.{Prints};
-ghost use Rattle.ele_forecast_forms.specs.Json.{end_text, fate_text, fates_text, json_text, label_field, life_fields, plan_text, policy_field, size_field, stay_text, staying_text, string_text, total_field, version_fields, version_text};
+ghost use Rattle.ele_forecast_forms.specs.Json.{end_text, fates_text, json_text, label_field, plan_text, policy_field, staying_text, total_field, version_text};
 ghost use Rattle.ele_forecast_forms.specs.Parts.{forecast_of};
 
 use crate::json_parts::{put_moment, put_moment_or_null, put_string};
-use crate::parts::put_version_number;
+use crate::parts::put_size;
 use ele_forecast::Forecast;
 use ele_forecast_text::{
-    Details, Plan, Staying, bytes_of, name_of, put_policy, put_reason, size_of, versions_of,
+    Details, Plan, Staying, bytes_of, name_of, put_policy, put_reason, versions_of,
 };
-use ele_moment::{Moment, VersionNo};
-use ele_output::{Printer, put_with_number};
+use ele_moment::VersionNo;
+use ele_output::{Printer, put_number, put_with_number};
 use ele_policy::Policy;
 use itoa::Buffer;
 use std::io::Write;
@@ -82,20 +82,9 @@ fn put_stayings<W: Write>(details: &Details, stayings: &[Staying], printer: &mut
 fn put_staying<W: Write>(details: &Details, staying: &Staying, printer: &mut Printer<'_, W>)
     ensures { Prints W.contents printer.old printer.new (staying_text details.now staying.now) }
 {
-    put_stay(details, staying.at, staying.numbers.as_slice(), printer);
-}
-
-// Puts that the versions of these numbers stay at a moment.
-fn put_stay<W: Write>(
-    details: &Details,
-    at: Moment,
-    numbers: &[VersionNo],
-    printer: &mut Printer<'_, W>,
-)
-    ensures { Prints W.contents printer.old printer.new (stay_text details.now at numbers.now) }
-{
+    let numbers = staying.numbers.as_slice();
     printer.put(b"{\"moment\":");
-    put_moment(at, printer);
+    put_moment(staying.at, printer);
     put_with_number(b",\"count\":", numbers.len() as u64, printer);
     put_total(details, numbers, printer);
     printer.put(b",\"numbers\":[");
@@ -108,17 +97,11 @@ fn put_total<W: Write>(details: &Details, numbers: &[VersionNo], printer: &mut P
     ensures { Prints W.contents printer.old printer.new (total_field details.now numbers.now) }
 {
     if details.columns.sizes {
-        put_bytes(bytes_of(details.sizes.as_slice(), numbers), printer);
+        let mut digits = Buffer::new();
+        let bytes = bytes_of(details.sizes.as_slice(), numbers);
+        printer.put(b",\"bytes\":");
+        printer.put(digits.format(bytes).as_bytes());
     }
-}
-
-// Puts how many bytes there are together.
-fn put_bytes<W: Write>(bytes: u128, printer: &mut Printer<'_, W>)
-    ensures { Prints W.contents printer.old printer.new (codes ",\"bytes\":" ++ decimal bytes) }
-{
-    let mut digits = Buffer::new();
-    printer.put(b",\"bytes\":");
-    printer.put(digits.format(bytes).as_bytes());
 }
 
 // Puts numbers, with a comma between each two.
@@ -129,10 +112,9 @@ fn put_numbers<W: Write>(numbers: &[VersionNo], printer: &mut Printer<'_, W>)
     let Some((first, rest)) = numbers.split_first() else {
         return;
     };
-    put_version_number(*first, printer);
+    put_number(first.0, printer);
     for number in rest {
-        printer.put_byte(b',');
-        put_version_number(*number, printer);
+        put_with_number(b",", number.0, printer);
     }
 }
 
@@ -166,21 +148,17 @@ fn put_version<W: Write>(
     ensures { Prints W.contents printer.old printer.new
         (version_text details.now plans.now version.now) }
 {
-    put_fields(details, version.number, printer);
-    put_life(version, printer);
-    printer.put(b",\"policies\":[");
-    put_fates(plans, version.number, printer);
-    printer.put(b"]}");
-}
-
-// Puts the number of a version, its label and its size.
-fn put_fields<W: Write>(details: &Details, number: VersionNo, printer: &mut Printer<'_, W>)
-    ensures { Prints W.contents printer.old printer.new (version_fields details.now number) }
-{
-    printer.put(b"\n{\"number\":");
-    put_version_number(number, printer);
+    let number = version.number;
+    put_with_number(b"\n{\"number\":", number.0, printer);
     put_label(details, number, printer);
-    put_size(details, number, printer);
+    put_size(b",\"bytes\":", details, number, printer);
+    printer.put(b",\"closed\":");
+    put_moment(version.closed, printer);
+    printer.put(b",\"ended\":");
+    put_moment_or_null(version.ended, printer);
+    printer.put(b",\"policies\":[");
+    put_fates(plans, number, printer);
+    printer.put(b"]}");
 }
 
 // Puts the label of a version, if versions have labels.
@@ -189,40 +167,12 @@ fn put_label<W: Write>(details: &Details, number: VersionNo, printer: &mut Print
 {
     if details.columns.labels {
         let mut digits = Buffer::new();
-        put_name(
+        put_string(
+            b",\"label\":",
             name_of(details.labels.as_slice(), number, &mut digits),
             printer,
         );
     }
-}
-
-// Puts the label of a version.
-fn put_name<W: Write>(label: &[u8], printer: &mut Printer<'_, W>)
-    ensures { Prints W.contents printer.old printer.new
-        (codes ",\"label\":" ++ string_text label.now) }
-{
-    printer.put(b",\"label\":");
-    put_string(label, printer);
-}
-
-// Puts the size of a version, if versions have sizes.
-fn put_size<W: Write>(details: &Details, number: VersionNo, printer: &mut Printer<'_, W>)
-    ensures { Prints W.contents printer.old printer.new (size_field details.now number) }
-{
-    if details.columns.sizes {
-        let size = size_of(details.sizes.as_slice(), number);
-        put_with_number(b",\"bytes\":", size, printer);
-    }
-}
-
-// Puts when a version closed and ended.
-fn put_life<W: Write>(version: &Forecast, printer: &mut Printer<'_, W>)
-    ensures { Prints W.contents printer.old printer.new (life_fields version.now) }
-{
-    printer.put(b",\"closed\":");
-    put_moment(version.closed, printer);
-    printer.put(b",\"ended\":");
-    put_moment_or_null(version.ended, printer);
 }
 
 // Puts what each plan says of the version of that number, with a comma between each two.
@@ -232,20 +182,13 @@ fn put_fates<W: Write>(plans: &[Plan], number: VersionNo, printer: &mut Printer<
     let Some((first, rest)) = plans.split_first() else {
         return;
     };
-    put_fate(first, number, printer);
+    put_policy_field(&first.policy, printer);
+    put_end(first, number, printer);
     for plan in rest {
         printer.put_byte(b',');
-        put_fate(plan, number, printer);
+        put_policy_field(&plan.policy, printer);
+        put_end(plan, number, printer);
     }
-}
-
-// Puts what a plan says of the version of that number.
-fn put_fate<W: Write>(plan: &Plan, number: VersionNo, printer: &mut Printer<'_, W>)
-    ensures { Prints W.contents printer.old printer.new
-        (fate_text plan.now.policy (forecast_of plan.now number)) }
-{
-    put_policy_field(&plan.policy, printer);
-    put_end(plan, number, printer);
 }
 
 // Puts when the version of that number becomes due, and why.

@@ -1,7 +1,6 @@
 //! The small parts of JSON: strings and moments. A contract sees a text as its bytes, and a printer as
 //! its outlet.
 ghost use Rattle.std.specs.Prelude.{◌≡◌, ◌<◌, ◌∷◌, ◌++◌, ◌/◌, ◌%◌, [], codes};
-ghost use Rattle.std.specs.List.{flat_map};
 ghost use Rattle.ele_output.specs.Prints.{Prints};
 ghost use Rattle.ele_forecast_forms.specs.Json.{digit_of, escaped, moment_or_null, moment_text, string_text};
 
@@ -10,22 +9,16 @@ use ele_moment::Moment;
 use ele_output::{Printer, put_number};
 use std::io::Write;
 
-/// Puts a string.
-pub(crate) fn put_string<W: Write>(text: &[u8], printer: &mut Printer<'_, W>)
-    ensures { Prints W.contents printer.old printer.new (string_text text.now) }
+/// Puts those bytes, and then a string.
+pub(crate) fn put_string<W: Write>(before: &[u8], text: &[u8], printer: &mut Printer<'_, W>)
+    ensures { Prints W.contents printer.old printer.new (before.now ++ string_text text.now) }
 {
+    printer.put(before);
     printer.put(b"\"");
-    put_bytes(text, printer);
-    printer.put(b"\"");
-}
-
-// Puts the bytes of a string.
-fn put_bytes<W: Write>(text: &[u8], printer: &mut Printer<'_, W>)
-    ensures { Prints W.contents printer.old printer.new (flat_map escaped text.now) }
-{
     for byte in text {
         put_escaped(*byte, printer);
     }
+    printer.put(b"\"");
 }
 
 // Puts a byte of a string.

@@ -7,9 +7,9 @@ use Rattle.ele_output.proofs.Lists.{joined_are}
 use Rattle.ele_output.specs.Line.{line_text}
 use Rattle.ele_policy.specs.Ladder.{Rung}
 use Rattle.ele_policy.specs.PolicyText.{ladder_word, pair_word}
-use Rattle.ele_forecast_text.specs.Details.{detail_headings, detail_words, total_words}
+use Rattle.ele_forecast_text.specs.Details.{detail_words}
 use Rattle.ele_forecast_text.specs.Stamp.{stamp_of, stamp_or}
-use Rattle.ele_forecast_text.specs.Table.{detailed_line, heading, numbered_line, table_line, told_words}
+use Rattle.ele_forecast_text.specs.Table.{detailed_line, table_line, told_words}
 use Rattle.ele_forecast_text.specs.Why.{length_words, never_word, span_words, spaced, why_words, width_at}
 use Rattle.ele_policy.specs.declared.cause.Cause.TheVariants.{AtOnce, Age, Displaced}
 use Rattle.ele_policy.specs.declared.policy.Policy.{Policy}
@@ -76,24 +76,6 @@ detailed_parts policy details told =
     let words = told_words policy told in
     line_parts (decimal told.number) (more ++ words)
     ∙ ap (λ (r : List ℕ). decimal told.number ++ r) (ap (λ (r : List ℕ). r ++ 10 ∷ []) (spaced_both more words) ∙ append_assoc (spaced more) (spaced words) (10 ∷ []))
-
--- the headings in their parts
-pub heading_parts : (details : Details) → heading details ≡ codes "version" ++ (spaced (detail_headings details) ++ codes " closed ended due why\n")
-heading_parts details =
-    let more = detail_headings details in
-    let last = codes "closed ended due why" ∷ [] in
-    line_parts (codes "version") (more ++ last)
-    ∙ ap (λ (r : List ℕ). codes "version" ++ r) (ap (λ (r : List ℕ). r ++ 10 ∷ []) (spaced_both more last) ∙ append_assoc (spaced more) (spaced last) (10 ∷ []))
-
--- the line of a moment in its parts
-pub numbered_parts : (details : Details) (at : ℕ) (numbers : List ℕ) → numbered_line details at numbers
-    ≡ join_with_byte 32 (codes "at" ∷ stamp_of at ∷ codes "stay" ∷ decimal (length numbers) ∷ [])
-    ++ (spaced (total_words details numbers) ++ (codes ":" ++ (flat_map (λ (number : ℕ). 32 ∷ decimal number) numbers ++ codes "\n")))
-numbered_parts details at numbers =
-    let count = stamp_of at ∷ codes "stay" ∷ decimal (length numbers) ∷ [] in
-    let total = total_words details numbers in
-    let rest = codes ":" ++ (flat_map (λ (number : ℕ). 32 ∷ decimal number) numbers ++ codes "\n") in
-    ap (λ (r : List ℕ). r ++ rest) (joined_both (codes "at") count total) ∙ append_assoc (join_with_byte 32 (codes "at" ∷ count)) (spaced total) rest
 
 -- the words of pairs are that of the first, and a comma and a word for each other
 pub pairs_are : (pairs : List Rung) (first : Rung) (rest : List Rung) → IsFirstAndRest pairs first rest → ladder_word pairs ≡ pair_word first ++ flat_map (λ (pair : Rung). 44 ∷ pair_word pair) rest

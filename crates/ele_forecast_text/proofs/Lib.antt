@@ -6,5 +6,7 @@ mod Dates
 mod Marks
 -- plans, one after another
 mod Plans
--- what is folded of the items of a list that are left
+-- what is folded of the items of a list that are left, and the numbers of ranges
 pub mod Folds
+-- what is put of a text, with a list in its middle
+pub mod Lines

@@ -1,7 +1,6 @@
 -- From which moment on forecasts describe versions, and up to which.
-use Rattle.std.specs.Prelude.{ℕ, max, List, [], ◌∷◌}
+use Rattle.std.specs.Prelude.{ℕ, max, List, [], ◌∷◌, unwrap_or}
 use Rattle.std.specs.List.{fold}
-use Rattle.std.specs.Option.{option_map_or}
 use Rattle.ele_forecast.specs.declared.forecast.Forecast.{Forecast}
 
 -- the first closing
@@ -11,7 +10,7 @@ first_of (told ∷ forecasts) = told.closed
 
 -- how far a forecast reaches: the moment from which its version may be forgotten, or its closing if there is none
 abbrev pub reach_of : Forecast → ℕ
-reach_of told = option_map_or (λ ripe. ripe) told.ripe told.closed
+reach_of told = unwrap_or told.ripe told.closed
 
 -- the last moment that these reach, or the one before them if that is later
 abbrev pub last_of : ℕ → List Forecast → ℕ

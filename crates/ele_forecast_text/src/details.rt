@@ -54,17 +54,17 @@ pub fn bytes_of(sizes: &[u64], numbers: &[VersionNo]) -> u128
 pub fn put_headings<W: Write>(details: &Details, printer: &mut Printer<'_, W>)
     ensures { Prints W.contents printer.old printer.new (spaced (detail_headings details.now)) }
 {
-    put_heading(details.columns.labels, b"label", printer);
-    put_heading(details.columns.sizes, b"bytes", printer);
+    put_word_if(details.columns.labels, b"label", printer);
+    put_word_if(details.columns.sizes, b"bytes", printer);
 }
 
-// Puts a space and the heading of a column, if there is that column.
-fn put_heading<W: Write>(has_column: bool, heading: &[u8], printer: &mut Printer<'_, W>)
+// Puts a space and a word, if there is that column.
+fn put_word_if<W: Write>(has_column: bool, word: &[u8], printer: &mut Printer<'_, W>)
     ensures { Prints W.contents printer.old printer.new
-        (spaced (words_if has_column (heading.now ∷ []))) }
+        (spaced (words_if has_column (word.now ∷ []))) }
 {
     if has_column {
-        put_word(heading, printer);
+        put_word(word, printer);
     }
 }
 
@@ -72,39 +72,25 @@ fn put_heading<W: Write>(has_column: bool, heading: &[u8], printer: &mut Printer
 pub fn put_details<W: Write>(details: &Details, number: VersionNo, printer: &mut Printer<'_, W>)
     ensures { Prints W.contents printer.old printer.new (spaced (detail_words details.now number)) }
 {
-    put_label(details, number, printer);
-    put_size(details, number, printer);
-}
-
-// Puts a space and the label of the version of that number, if versions have labels.
-fn put_label<W: Write>(details: &Details, number: VersionNo, printer: &mut Printer<'_, W>)
-    ensures { Prints W.contents printer.old printer.new (spaced
-        (words_if details.now.columns.labels (name_of details.now.labels.items number ∷ []))) }
-{
-    if details.columns.labels {
-        let mut digits = Buffer::new();
-        put_word(
-            name_of(details.labels.as_slice(), number, &mut digits),
-            printer,
-        );
-    }
-}
-
-// Puts a space and the size of the version of that number, if versions have sizes.
-fn put_size<W: Write>(details: &Details, number: VersionNo, printer: &mut Printer<'_, W>)
-    ensures { Prints W.contents printer.old printer.new (spaced (words_if details.now.columns.sizes
-        (decimal (size_of details.now.sizes.items number) ∷ []))) }
-{
-    if details.columns.sizes {
-        let mut digits = Buffer::new();
-        let size = size_of(details.sizes.as_slice(), number);
-        put_word(digits.format(size).as_bytes(), printer);
-    }
+    let mut name_digits = Buffer::new();
+    let mut size_digits = Buffer::new();
+    let name = name_of(details.labels.as_slice(), number, &mut name_digits);
+    let size = size_of(details.sizes.as_slice(), number);
+    put_word_if(details.columns.labels, name, printer);
+    put_word_if(
+        details.columns.sizes,
+        size_digits.format(size).as_bytes(),
+        printer,
+    );
 }
 
 /// Puts a space and each word of how many bytes the versions of these numbers have together, if
 /// versions have sizes.
-pub fn put_total<W: Write>(details: &Details, numbers: &[VersionNo], printer: &mut Printer<'_, W>)
+pub(crate) fn put_total<W: Write>(
+    details: &Details,
+    numbers: &[VersionNo],
+    printer: &mut Printer<'_, W>,
+)
     ensures { Prints W.contents printer.old printer.new
         (spaced (total_words details.now numbers.now)) }
 {

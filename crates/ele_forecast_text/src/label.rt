@@ -1,6 +1,5 @@
 //! Labels of versions. A contract sees a label as its bytes.
-ghost use Rattle.std.specs.Prelude.{◌≡◌, ◌∷◌, []};
-ghost use Rattle.ele_output.specs.Line.{line_text};
+ghost use Rattle.std.specs.Prelude.{◌≡◌};
 ghost use Rattle.ele_output.specs.Prints.{Prints};
 ghost use Rattle.ele_forecast_text.specs.Labels.{name_of, names_text};
 
@@ -30,15 +29,7 @@ pub fn put_names<W: Write>(labels: &[Label], numbers: &[VersionNo], printer: &mu
     ensures { Prints W.contents printer.old printer.new (names_text labels.now numbers.now) }
 {
     for number in numbers {
-        put_name(labels, *number, printer);
+        let mut digits = Buffer::new();
+        put_line(name_of(labels, *number, &mut digits), &[], printer);
     }
-}
-
-// Prints a line with the name of the version.
-fn put_name<W: Write>(labels: &[Label], number: VersionNo, printer: &mut Printer<'_, W>)
-    ensures { Prints W.contents printer.old printer.new (line_text (name_of labels.now number ∷ [])) }
-{
-    let mut digits = Buffer::new();
-    let name = name_of(labels, number, &mut digits);
-    put_line(name, &[], printer);
 }

@@ -14,7 +14,7 @@ mod table;
 mod unit;
 mod why;
 
-pub use details::{Columns, Details, bytes_of, put_details, put_headings, put_total, size_of};
+pub use details::{Columns, Details, bytes_of, put_details, put_headings, size_of};
 pub use label::{Label, name_of, put_names};
 pub use listing::listed_at;
 pub use plan::{Plan, plan_of, plans_of, versions_of};
@@ -22,5 +22,5 @@ pub use policy::put_policy;
 pub use reach::{first_of, last_of, later};
 pub use row::{put_version, stamp_of};
 pub use staying::{Staying, staying_at};
-pub use table::put_table;
+pub use table::{put_kept, put_table};
 pub use why::{put_length, put_reason};

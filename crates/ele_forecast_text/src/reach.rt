@@ -1,6 +1,6 @@
 //! From which moment on forecasts describe versions, and up to which. A contract sees moments as seconds.
 ghost use Rattle.std.specs.Prelude.{◌≡◌, max};
-ghost use Rattle.ele_forecast_text.specs.Reach.{first_of, last_of, reach_of};
+ghost use Rattle.ele_forecast_text.specs.Reach.{first_of, last_of};
 
 use ele_forecast::Forecast;
 use ele_moment::Moment;
@@ -21,7 +21,7 @@ pub fn last_of(first: Moment, forecasts: &[Forecast]) -> Moment
 {
     let mut last = first;
     for forecast in forecasts {
-        last = later(last, reach_of(forecast));
+        last = later(last, forecast.ripe.unwrap_or(forecast.closed));
     }
     last
 }
@@ -31,14 +31,4 @@ pub fn later(a: Moment, b: Moment) -> Moment
     ensures { result ≡ max a b }
 {
     if a.seconds() < b.seconds() { b } else { a }
-}
-
-// How far a forecast reaches.
-fn reach_of(forecast: &Forecast) -> Moment
-    ensures { result ≡ reach_of forecast.now }
-{
-    match forecast.ripe {
-        Some(ripe) => ripe,
-        None => forecast.closed,
-    }
 }

@@ -7,9 +7,9 @@ ghost use Rattle.ele_forecast_text.specs.Table.{detailed_line, table_line, told_
 ghost use Rattle.ele_forecast_text.specs.Why.{spaced};
 
 use crate::details::{Details, put_details};
-use crate::why::put_why;
+use crate::why::put_reason;
 use ele_forecast::Forecast;
-use ele_moment::{Moment, VersionNo};
+use ele_moment::Moment;
 use ele_output::{Printer, put_number, put_words};
 use ele_policy::Policy;
 use std::io::Write;
@@ -39,7 +39,8 @@ pub(crate) fn stamp_or<'s>(moment: Option<Moment>, stamp: &'s mut [u8; 20]) -> &
 pub fn put_version<W: Write>(policy: &Policy, forecast: &Forecast, printer: &mut Printer<'_, W>)
     ensures { Prints W.contents printer.old printer.new (table_line policy.now forecast.now) }
 {
-    put_version_number(forecast.number, printer);
+    let number = forecast.number;
+    put_number(number.0, printer);
     put_told(policy, forecast, printer);
 }
 
@@ -53,16 +54,10 @@ pub(crate) fn put_detailed<W: Write>(
     ensures { Prints W.contents printer.old printer.new
         (detailed_line policy.now details.now forecast.now) }
 {
-    put_version_number(forecast.number, printer);
-    put_details(details, forecast.number, printer);
-    put_told(policy, forecast, printer);
-}
-
-// Prints the number of a version.
-fn put_version_number<W: Write>(number: VersionNo, printer: &mut Printer<'_, W>)
-    ensures { Prints W.contents printer.old printer.new (decimal number) }
-{
+    let number = forecast.number;
     put_number(number.0, printer);
+    put_details(details, number, printer);
+    put_told(policy, forecast, printer);
 }
 
 // Prints a space and a word for each moment of a version, the reason, and a line feed.
@@ -70,21 +65,13 @@ fn put_told<W: Write>(policy: &Policy, forecast: &Forecast, printer: &mut Printe
     ensures { Prints W.contents printer.old printer.new
         (spaced (told_words policy.now forecast.now) ++ 10 ∷ []) }
 {
-    put_moments(forecast, printer);
-    put_why(policy, forecast.why, printer);
-    printer.put(b"\n");
-}
-
-// Prints a space and a word for each moment of a version: when it closed, ended and becomes due.
-fn put_moments<W: Write>(forecast: &Forecast, printer: &mut Printer<'_, W>)
-    ensures { Prints W.contents printer.old printer.new
-        (spaced (stamp_of forecast.now.closed ∷ stamp_or forecast.now.ended
-        ∷ stamp_or forecast.now.ripe ∷ [])) }
-{
     let mut ended = [0; 20];
     let mut due = [0; 20];
     let closed = stamp_of(forecast.closed);
     let ended = stamp_or(forecast.ended, &mut ended);
     let due = stamp_or(forecast.ripe, &mut due);
     put_words(b"", &[&closed, ended, due], printer);
+    printer.put_byte(b' ');
+    put_reason(policy, forecast.why, printer);
+    printer.put(b"\n");
 }

@@ -12,14 +12,6 @@ use ele_policy::{Cause, Policy};
 use itoa::Buffer;
 use std::io::Write;
 
-/// Prints a space and the reason.
-pub(crate) fn put_why<W: Write>(policy: &Policy, why: Why, printer: &mut Printer<'_, W>)
-    ensures { Prints W.contents printer.old printer.new (spaced (why_words policy.now why)) }
-{
-    printer.put_byte(b' ');
-    put_reason(policy, why, printer);
-}
-
 /// Prints why a version becomes due or stays, in words with a space between each two.
 pub fn put_reason<W: Write>(policy: &Policy, why: Why, printer: &mut Printer<'_, W>)
     ensures { Prints W.contents printer.old printer.new

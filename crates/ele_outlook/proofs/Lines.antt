@@ -1,4 +1,4 @@
--- The lines of an input, and their closings.
+-- The lines of an input, and what they say.
 use Rattle.std.proofs.Common.{◌≡◌, ◌≢◌, ℕ, zero, suc, ◌+◌, ◌<◌, ◌≤◌, ◌==◌, Bool, true, false, List, [], ◌∷◌, ◌++◌, length, take, drop, get_or, Option, Some, None, Err, refl, sym, ap, subst, ◌∙◌, arith, append_assoc}
 use Rattle.std.proofs.lemmas.Bool.{ne_eqb, eq-eqb, eqb-true}
 use Rattle.std.proofs.lemmas.List.{append-nil, length-append, length-take-le}
@@ -10,8 +10,11 @@ use Rattle.std.specs.List.{All, AllZip, slice_split}
 use Rattle.memchr.specs.Find.{IsFirstByte, is_byte}
 use Rattle.ele_lists.specs.Lists.{AllLater}
 use Rattle.ele_lists.proofs.Taken.{cut-at}
-use Rattle.ele_outlook.specs.Input.{SpellClosings, SpellsLine, lines_of, without_empty_last}
-use Rattle.ele_outlook.specs.Reading.{FailsToAdd, ReadSoFar, ReadsClosings}
+use Rattle.ele_outlook.specs.Input.{SpellClosings, SpellsLine, label_of, labels_of, lines_of, size_word, size_words_of, without_empty_last}
+use Rattle.ele_outlook.specs.Reading.{FailsToAdd, HaveRead, IsWithLine, ReadsLines}
+use Rattle.ele_outlook.specs.Told.{AreDetails}
+use Rattle.ele_outlook.specs.declared.input.ReadLines.{ReadLines}
+use Rattle.ele_outlook.proofs.Detailed.{details_more, no_words}
 use Rattle.ele_outlook.specs.declared.options.LineForm.{LineForm}
 use Rattle.ele_outlook.specs.declared.fault.ForecastFault.{ForecastFault}
 use Rattle.ele_outlook.specs.declared.fault.ForecastFault.TheVariants.{ReadFault, BadInput, TooLong, WriteFault, NoMemory}
@@ -65,21 +68,39 @@ zip_length form [] [] all = refl
 zip_length form (w ∷ words) (c ∷ closings) all = ap suc (zip_length form words closings all.1)
 zip_length form words closings all = grind arith
 
+-- no line was read yet
+pub read_none : {form : LineForm} {input : List ℕ} {read : ReadLines} → read.closings ≡ [] → AreDetails form.columns [] [] read.details → HaveRead form input input read
+read_none {form} {input} {read} none details =
+    record {
+      done = [];
+      lines = refl;
+      spelled = subst (λ (closings : List ℕ). AllZip (SpellsLine form) [] closings) (sym none) tt;
+      detailed = record {
+        columns_are = details.columns_are;
+        labels_are = details.labels_are ∙ sym (no_words form.columns.labels (label_of form));
+        sizes_are = details.sizes_are ∙ sym (no_words form.columns.sizes (size_word form));
+      };
+    }
+
 -- one more line
-pub read_more : {form : LineForm} {input rest closings new : List ℕ} (line behind : List ℕ) → ReadSoFar form input rest closings → lines_of rest ≡ line ∷ lines_of behind
-    → (closing : ℕ) → SpellsLine form line closing → new ≡ closings ++ closing ∷ [] → ReadSoFar form input behind new
-read_more {form} {input} {rest} {closings} {new} line behind far cut closing is new_is =
+pub read_more : {form : LineForm} {input rest : List ℕ} {old new : ReadLines} (line behind : List ℕ) → HaveRead form input rest old → lines_of rest ≡ line ∷ lines_of behind
+    → IsWithLine form line old new → HaveRead form input behind new
+read_more {form} {input} {rest} {old} {new} line behind far cut is =
     record {
       done = far.done ++ line ∷ [];
       lines = far.lines ∙ ap (λ (ls : List (List ℕ)). far.done ++ ls) cut ∙ sym (append_assoc far.done (line ∷ []) (lines_of behind));
-      spelled = rw new_is (zip_push form far.done closings line closing far.spelled is);
+      spelled = rw is.closings (zip_push form far.done old.closings line is.closing far.spelled is.spells);
+      detailed = details_more form far.done line is.size is.label old.details new.details is.fields is.added far.detailed;
     }
 
 -- all lines
-pub read_all : {form : LineForm} {input rest closings : List ℕ} → ReadSoFar form input rest closings → lines_of rest ≡ [] → AllLater ◌≤◌ closings → SpellClosings form (lines_of input) closings
-read_all {form} {input} {rest} {closings} far none rise =
-    let all : lines_of input ≡ far.done = far.lines ∙ ap (λ (ls : List (List ℕ)). far.done ++ ls) none ∙ append-nil far.done in
-    record { spelled = subst (λ (ls : List (List ℕ)). AllZip (SpellsLine form) ls closings) (sym all) far.spelled; rise = rise }
+pub read_all : {form : LineForm} {input rest : List ℕ} {read : ReadLines} → HaveRead form input rest read → lines_of rest ≡ [] → AllLater ◌≤◌ read.closings
+    → SpellClosings form (lines_of input) read.closings × AreDetails form.columns (labels_of form (lines_of input)) (size_words_of form (lines_of input)) read.details
+read_all {form} {input} {rest} {read} far none rise =
+    let all : lines_of input ≡ far.done = far.lines ∙ ap (λ (ls : List (List ℕ)). far.done ++ ls) none ∙ append-nil far.done in (
+      record { spelled = subst (λ (ls : List (List ℕ)). AllZip (SpellsLine form) ls read.closings) (sym all) far.spelled; rise = rise },
+      subst (λ (ls : List (List ℕ)). AreDetails form.columns (labels_of form ls) (size_words_of form ls) read.details) (sym all) far.detailed,
+    )
 
 -- an input with a line isn't empty
 pub not_empty : (input : List ℕ) (before : List (List ℕ)) (line : List ℕ) (behind : List (List ℕ)) → lines_of input ≡ before ++ line ∷ behind → input ≢ []
@@ -88,16 +109,16 @@ not_empty [] (first ∷ before) line behind e = λ is. absurd cc
 not_empty (byte ∷ bytes) before line behind e = λ is. absurd cc
 
 -- the next line is bad, or there is no memory for it
-pub read_bad : {form : LineForm} {input rest closings : List ℕ} (line : List ℕ) (behind : List (List ℕ)) (fault : ForecastFault) → ReadSoFar form input rest closings → lines_of rest ≡ line ∷ behind
-    → FailsToAdd form line closings fault → ReadsClosings form input (Err fault)
-read_bad {form} {input = input} {closings = closings} line behind (BadInput number why) far cut bad =
+pub read_bad : {form : LineForm} {input rest : List ℕ} {read : ReadLines} (line : List ℕ) (behind : List (List ℕ)) (fault : ForecastFault) → HaveRead form input rest read → lines_of rest ≡ line ∷ behind
+    → FailsToAdd form line read.closings fault → ReadsLines form input (Err fault)
+read_bad {form} {input = input} {read = read} line behind (BadInput number why) far cut bad =
     record {
       before = far.done;
       line = line;
       behind = behind;
-      closings = closings;
+      closings = read.closings;
       lines = far.lines ∙ ap (λ (ls : List (List ℕ)). far.done ++ ls) cut;
-      number_is = bad.0 ∙ ap (λ (n : ℕ). n + 1) (sym (zip_length form far.done closings far.spelled));
+      number_is = bad.0 ∙ ap (λ (n : ℕ). n + 1) (sym (zip_length form far.done read.closings far.spelled));
       spell = record { spelled = far.spelled; rise = bad.1 };
       bad = bad.2;
     }

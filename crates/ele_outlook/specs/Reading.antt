@@ -1,13 +1,14 @@
 -- The parts of reading and writing. No public clause cites this module.
-use Rattle.std.specs.Prelude.{◌≡◌, ◌≢◌, ◌<◌, ◌≤◌, ℕ, Bool, true, false, map, ◌+◌, List, [], ◌∷◌, ◌++◌, length, Option, Result, Ok, Err, ◌⊎◌}
+use Rattle.std.specs.Prelude.{◌≡◌, ◌≢◌, ◌<◌, ◌≤◌, ℕ, Bool, map, ◌+◌, List, [], ◌∷◌, ◌++◌, decimal, length, Option, Result, Ok, Err, ◌⊎◌}
 use Rattle.std.specs.List.{AllZip}
 use Rattle.std.specs.Io.KnownBytes.{Appends, Consumes, Keeps}
-use Rattle.ele_moment.specs.Number.{SpellsNumber}
 use Rattle.ele_lists.specs.Lists.{AllLater}
 use Rattle.ele_output.specs.Front.{AppendsFront}
-use Rattle.ele_outlook.specs.Input.{IsBad, IsFirstBad, SpellClosings, SpellsLine, label_of, lines_of, size_word}
-use Rattle.ele_outlook.specs.Told.{IsForecastText, IsOver, texts_of}
-use Rattle.ele_forecast_text.specs.declared.label.Label.{Label}
+use Rattle.ele_forecast_text.specs.Details.{words_if}
+use Rattle.ele_forecast_text.specs.declared.details.Details.{Details}
+use Rattle.ele_outlook.specs.Input.{HasFields, HasSize, IsBad, IsFirstBad, SpellClosings, SpellsLine, label_of, labels_of, lines_of, size_words_of}
+use Rattle.ele_outlook.specs.Told.{AreDetails, IsForecastText, IsOver, texts_of}
+use Rattle.ele_outlook.specs.declared.input.ReadLines.{ReadLines}
 use Rattle.ele_outlook.specs.declared.options.ForecastOptions.{ForecastOptions}
 use Rattle.ele_outlook.specs.declared.options.LineForm.{LineForm}
 use Rattle.ele_outlook.specs.declared.fault.ForecastFault.{ForecastFault}
@@ -21,54 +22,23 @@ GivesUp input rest (BadInput number why) = ⊥
 GivesUp input rest TooLong = ⊥
 GivesUp input rest WriteFault = ⊥
 
--- these lines were read, and spell these closings
-pub record ReadSoFar (form : LineForm) (input rest closings : List ℕ) : Type 0 where
+-- the size of a line: the number that its word spells, if lines have sizes
+pub record IsSize (form : LineForm) (line : List ℕ) (size : ℕ) : Type 0 where
+  pub has : HasSize form line
+  pub word : size_words_of form (line ∷ []) ≡ words_if form.columns.sizes (decimal size ∷ [])
+
+-- the size and the label of a line, which has all that it must have
+pub record AreFields (form : LineForm) (line : List ℕ) (size : ℕ) (label : List ℕ) : Type 0 where
+  pub has : HasFields form line
+  pub word : size_words_of form (line ∷ []) ≡ words_if form.columns.sizes (decimal size ∷ [])
+  pub label_is : label ≡ label_of form line
+
+-- some lines of the input were read, whose closings, labels and sizes these are, and the others are left
+pub record HaveRead (form : LineForm) (input rest : List ℕ) (read : ReadLines) : Type 0 where
   pub done : List (List ℕ)
   pub lines : lines_of input ≡ done ++ lines_of rest
-  pub spelled : AllZip (SpellsLine form) done closings
-
--- the line after those of these closings is bad, or memory for its closing was refused
-abbrev pub FailsToAdd : LineForm → List ℕ → List ℕ → ForecastFault → Type 0
-FailsToAdd form line closings (BadInput number why) = (number ≡ length closings + 1) × AllLater ◌≤◌ closings × IsBad form closings line why
-FailsToAdd form line closings NoMemory = Unit {0}
-FailsToAdd form line closings ReadFault = ⊥
-FailsToAdd form line closings TooLong = ⊥
-FailsToAdd form line closings WriteFault = ⊥
-
--- the closing of a line was added to those of the lines before
-abbrev pub AddsClosing : {A : Type 0} → LineForm → List ℕ → List ℕ → List ℕ → Result A ForecastFault → Type 0
-AddsClosing form line old new (Ok _) = (closing : ℕ) × SpellsLine form line closing × (new ≡ old ++ closing ∷ [])
-AddsClosing form line old new (Err fault) = FailsToAdd form line old fault
-
--- the closings of all lines, or the first bad line; memory can be refused only if there is a line
-abbrev pub ReadsClosings : LineForm → List ℕ → Result (List ℕ) ForecastFault → Type 0
-ReadsClosings form input (Ok closings) = SpellClosings form (lines_of input) closings
-ReadsClosings form input (Err (BadInput number why)) = IsFirstBad form input number why
-ReadsClosings form input (Err NoMemory) = input ≢ []
-ReadsClosings form input (Err ReadFault) = ⊥
-ReadsClosings form input (Err TooLong) = ⊥
-ReadsClosings form input (Err WriteFault) = ⊥
-
--- these lines were read, and have these labels
-pub record LabelsSoFar (form : LineForm) (input rest : List ℕ) (labels : List Label) : Type 0 where
-  pub done : List (List ℕ)
-  pub lines : lines_of input ≡ done ++ lines_of rest
-  pub texts : texts_of labels ≡ map (label_of form) done
-
--- the size is the number that the word of the line's size spells, if it spells one
-abbrev pub IsSizeOf : LineForm → List ℕ → ℕ → Type 0
-IsSizeOf form line size = (n : ℕ) → SpellsNumber (size_word form line) n → size ≡ n
-
--- these lines were read, and have these sizes
-pub record SizesSoFar (form : LineForm) (input rest sizes : List ℕ) : Type 0 where
-  pub done : List (List ℕ)
-  pub lines : lines_of input ≡ done ++ lines_of rest
-  pub spelled : AllZip (IsSizeOf form) done sizes
-
--- the sizes of lines, if lines have sizes
-abbrev pub AreSizesIf : Bool → LineForm → List (List ℕ) → List ℕ → Type 0
-AreSizesIf false form lines sizes = sizes ≡ []
-AreSizesIf true form lines sizes = AllZip (IsSizeOf form) lines sizes
+  pub spelled : AllZip (SpellsLine form) done read.closings
+  pub detailed : AreDetails form.columns (labels_of form done) (size_words_of form done) read.details
 
 -- memory was refused
 abbrev pub IsMemory : ForecastFault → Type 0
@@ -78,23 +48,52 @@ IsMemory ReadFault = ⊥
 IsMemory TooLong = ⊥
 IsMemory WriteFault = ⊥
 
--- the label of a line was added to those of the lines before
-abbrev pub AddsLabel : {A : Type 0} → LineForm → List ℕ → List Label → List Label → Result A ForecastFault → Type 0
-AddsLabel form line old new (Ok _) = texts_of new ≡ texts_of old ++ label_of form line ∷ []
-AddsLabel form line old new (Err fault) = IsMemory fault
+-- a word was added to others, if lines have it
+abbrev pub AddsWord : {A : Type 0} → Bool → List ℕ → List (List ℕ) → List (List ℕ) → Result A ForecastFault → Type 0
+AddsWord has word old new (Ok _) = new ≡ old ++ words_if has (word ∷ [])
+AddsWord has word old new (Err fault) = IsMemory fault
 
--- the size of a line was added to those of the lines before
-abbrev pub AddsSize : {A : Type 0} → LineForm → List ℕ → List ℕ → List ℕ → Result A ForecastFault → Type 0
-AddsSize form line old new (Ok _) = (size : ℕ) × IsSizeOf form line size × (new ≡ old ++ size ∷ [])
-AddsSize form line old new (Err fault) = IsMemory fault
+-- the label and the size of a line were added to those of the lines before
+pub record AreAdded (size : ℕ) (label : List ℕ) (old new : Details) : Type 0 where
+  pub columns : new.columns ≡ old.columns
+  pub labels : texts_of new.labels.items ≡ texts_of old.labels.items ++ words_if old.columns.labels (label ∷ [])
+  pub sizes : map decimal new.sizes.items ≡ map decimal old.sizes.items ++ words_if old.columns.sizes (decimal size ∷ [])
 
--- memory can be refused only if there is a line
-abbrev pub FailsToRead : List ℕ → ForecastFault → Type 0
-FailsToRead input NoMemory = input ≢ []
-FailsToRead input (BadInput number why) = ⊥
-FailsToRead input ReadFault = ⊥
-FailsToRead input TooLong = ⊥
-FailsToRead input WriteFault = ⊥
+abbrev pub AddsDetails : {A : Type 0} → ℕ → List ℕ → Details → Details → Result A ForecastFault → Type 0
+AddsDetails size label old new (Ok _) = AreAdded size label old new
+AddsDetails size label old new (Err fault) = IsMemory fault
+
+-- the line after those of these closings is bad, or memory was refused
+abbrev pub FailsToAdd : LineForm → List ℕ → List ℕ → ForecastFault → Type 0
+FailsToAdd form line closings (BadInput number why) = (number ≡ length closings + 1) × AllLater ◌≤◌ closings × IsBad form closings line why
+FailsToAdd form line closings NoMemory = Unit {0}
+FailsToAdd form line closings ReadFault = ⊥
+FailsToAdd form line closings TooLong = ⊥
+FailsToAdd form line closings WriteFault = ⊥
+
+-- what a line says was added to what the lines before say
+pub record IsWithLine (form : LineForm) (line : List ℕ) (old new : ReadLines) : Type 0 where
+  pub closing : ℕ
+  pub spells : SpellsLine form line closing
+  pub closings : new.closings ≡ old.closings ++ closing ∷ []
+  pub size : ℕ
+  pub label : List ℕ
+  pub fields : AreFields form line size label
+  pub added : AreAdded size label old.details new.details
+
+abbrev pub AddsLine : {A : Type 0} → LineForm → List ℕ → ReadLines → ReadLines → Result A ForecastFault → Type 0
+AddsLine form line old new (Ok _) = IsWithLine form line old new
+AddsLine form line old new (Err fault) = FailsToAdd form line old.closings fault
+
+-- the closings, labels and sizes of all lines, or the first bad line; memory can be refused only if there is a line
+abbrev pub ReadsLines : LineForm → List ℕ → Result ReadLines ForecastFault → Type 0
+ReadsLines form input (Ok read) =
+    SpellClosings form (lines_of input) read.closings × AreDetails form.columns (labels_of form (lines_of input)) (size_words_of form (lines_of input)) read.details
+ReadsLines form input (Err (BadInput number why)) = IsFirstBad form input number why
+ReadsLines form input (Err NoMemory) = input ≢ []
+ReadsLines form input (Err ReadFault) = ⊥
+ReadsLines form input (Err TooLong) = ⊥
+ReadsLines form input (Err WriteFault) = ⊥
 
 -- the forecast of these closings was written
 abbrev pub TellsClosings : {A : Type 0} → ForecastOptions → List ℕ → List (List ℕ) → List (List ℕ) → Option (List ℕ) → Option (List ℕ) → Result A ForecastFault → Type 0

@@ -41,9 +41,6 @@ abbrev pub stayings_of : List Plan → List Staying
 stayings_of [] = []
 stayings_of (plan ∷ plans) = plan.stayings.items
 
-abbrev pub plan_table : Details → Plan → List ℕ
-plan_table details plan = table_text plan.policy details plan.forecasts.items plan.stayings.items
-
 -- a line with the policy, if it is wanted
 abbrev pub policy_line : Bool → Plan → List ℕ
 policy_line false plan = []
@@ -52,7 +49,7 @@ policy_line true plan = codes "policy " ++ (policy_word plan.policy ++ codes "\n
 -- the table of one policy, or of several side by side, with this number of moments
 abbrev pub told_table : Bool → Details → List Plan → ℕ → List ℕ
 told_table named details [] moments = compared_text details [] moments
-told_table named details (plan ∷ []) moments = policy_line named plan ++ plan_table details plan
+told_table named details (plan ∷ []) moments = policy_line named plan ++ table_text details plan
 told_table named details (plan ∷ next ∷ plans) moments = compared_text details (plan ∷ next ∷ plans) moments
 
 abbrev pub told_text : Form → ForecastOptions → Details → List Plan → List ℕ → List Counts → List ℕ

@@ -1,7 +1,9 @@
 //! The fields of a line, which tabs separate. A contract sees a line as its bytes.
-ghost use Rattle.std.specs.Prelude.{◌≡◌, ◌↔◌, IfNone, IfSome, IsTrue};
+ghost use Rattle.std.specs.Prelude.{◌≡◌, ◌≢◌, ◌↔◌, ◌&&◌, [], IfErr, IfNone, IfOk, IfSome, IsTrue};
 ghost use Rattle.std.specs.List.{after_first, before_first};
-ghost use Rattle.ele_outlook.specs.Input.{HasFields, HasLabel, HasSize, HasText, LacksField, after_tab_if, before_tab_if, is_tab, label_of, size_word, time_of};
+ghost use Rattle.std.specs.Str.{IsUtf8};
+ghost use Rattle.ele_outlook.specs.Input.{Asked, HasSize, LacksField, after_tab_if, before_tab_if, is_tab, label_of, size_word, time_of};
+ghost use Rattle.ele_outlook.specs.Reading.{AreFields, IsSize};
 
 use crate::fault::BadLine;
 use crate::input::cut_line;
@@ -9,42 +11,51 @@ use crate::options::LineForm;
 use ele_moment::read_number;
 use memchr::memchr;
 
-/// Returns the first field besides the time that a line lacks, or `None` if it lacks none.
-pub(crate) fn lacking(form: LineForm, line: &[u8]) -> Option<BadLine>
-    ensures some { IfSome result (LacksField form line.now) }
-    ensures none { IfNone result (HasFields form line.now) }
+/// Returns the size and the label of a line, or the first of these that it must have and lacks. The size is 0 if
+/// lines have none.
+pub(crate) fn fields_of(form: LineForm, line: &[u8]) -> Result<(u64, &[u8]), BadLine>
+    ensures ok { IfOk result (λ fields. AreFields form line.now fields.0 fields.1.now) }
+    ensures err { IfErr result (LacksField form line.now) }
 {
-    if !has_size(form, line) {
-        return Some(BadLine::NoSize);
+    let Some(size) = size_of(form, line) else {
+        return Err(BadLine::NoSize);
+    };
+    let label = label_of(form, line);
+    if !has_label(form, label) {
+        return Err(BadLine::NoLabel);
     }
-    if !has_label(form, line) {
-        return Some(BadLine::NoLabel);
+    if !has_text(form, label) {
+        return Err(BadLine::NotUtf8);
     }
-    if !has_text(form, line) {
-        return Some(BadLine::NotUtf8);
-    }
-    None
+    Ok((size, label))
 }
 
-// Whether a line has a size, if lines have sizes.
-fn has_size(form: LineForm, line: &[u8]) -> bool
-    ensures { IsTrue result ↔ HasSize form line.now }
+// Returns the size of a line, 0 if lines have none, or `None` if the line has none and must have one.
+fn size_of(form: LineForm, line: &[u8]) -> Option<u64>
+    ensures some { IfSome result (IsSize form line.now) }
+    ensures none { IfNone result (¬ HasSize form line.now) }
 {
-    !form.columns.sizes || read_number(size_word(form, line)).is_some()
+    if !form.columns.sizes {
+        return Some(0);
+    }
+    match read_number(size_word(form, line)) {
+        Some(size) => Some(size),
+        None => None,
+    }
 }
 
-// Whether a line has a label, if lines have labels.
-fn has_label(form: LineForm, line: &[u8]) -> bool
-    ensures { IsTrue result ↔ HasLabel form line.now }
+// Whether a label is one, if lines have labels.
+fn has_label(form: LineForm, label: &[u8]) -> bool
+    ensures { IsTrue result ↔ Asked form.columns.labels (label.now ≢ []) }
 {
-    !form.columns.labels || !label_of(form, line).is_empty()
+    !form.columns.labels || !label.is_empty()
 }
 
-// Whether the label of a line is UTF-8, if labels must be.
-fn has_text(form: LineForm, line: &[u8]) -> bool
-    ensures { IsTrue result ↔ HasText form line.now }
+// Whether a label is UTF-8, if labels must be.
+fn has_text(form: LineForm, label: &[u8]) -> bool
+    ensures { IsTrue result ↔ Asked (form.columns.labels && form.texts) (IsUtf8 label.now) }
 {
-    !(form.columns.labels && form.texts) || std::str::from_utf8(label_of(form, line)).is_ok()
+    !(form.columns.labels && form.texts) || std::str::from_utf8(label).is_ok()
 }
 
 /// Returns the time of a line: the whole line, or the part before its first tab if lines have other
@@ -55,15 +66,15 @@ pub(crate) fn time_of(form: LineForm, line: &[u8]) -> &[u8]
     before_tab_if(form.columns.labels || form.columns.sizes, line)
 }
 
-/// Returns the size of a line: the part after its first tab, until the next one if lines have labels.
-pub(crate) fn size_word(form: LineForm, line: &[u8]) -> &[u8]
+// Returns the size of a line: the part after its first tab, until the next one if lines have labels.
+fn size_word(form: LineForm, line: &[u8]) -> &[u8]
     ensures { result.now ≡ size_word form line.now }
 {
     before_tab_if(form.columns.labels, cut_at_tab(line).1)
 }
 
-/// Returns the label of a line: the part after its first tab, or after its second if lines have sizes.
-pub(crate) fn label_of(form: LineForm, line: &[u8]) -> &[u8]
+// Returns the label of a line: the part after its first tab, or after its second if lines have sizes.
+fn label_of(form: LineForm, line: &[u8]) -> &[u8]
     ensures { result.now ≡ label_of form line.now }
 {
     after_tab_if(form.columns.sizes, cut_at_tab(line).1)

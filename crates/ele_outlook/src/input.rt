@@ -1,14 +1,16 @@
-//! Reads the closings from an input with a moment a line. A contract sees the input as its bytes.
-ghost use Rattle.std.specs.Prelude.{◌≡◌, ◌≤◌, ◌<◌, ◌+◌, ℕ, List, None, OnOk, IfErr, IfOk, drop, length, take};
+//! Reads an input with a line for each closing. A contract sees the input as its bytes.
+ghost use Rattle.std.specs.Prelude.{◌≡◌, ◌≤◌, ◌<◌, ◌+◌, ℕ, List, None, OnOk, IfErr, IfOk, [], decimal, drop, length, map, take};
 ghost use Rattle.std.specs.Io.KnownBytes.{Consumes, IsAtEnd};
 ghost use Rattle.memchr.specs.Find.{IsFirstByte, is_byte};
 ghost use Rattle.ele_lists.specs.Lists.{AllLater};
-ghost use Rattle.ele_outlook.specs.Reading.{AddsClosing, GivesUp, ReadSoFar, ReadsClosings};
+ghost use Rattle.ele_outlook.specs.Reading.{AddsDetails, AddsLine, AddsWord, GivesUp, HaveRead, ReadsLines};
+ghost use Rattle.ele_outlook.specs.Told.{AreDetails, texts_of};
 
 use crate::fault::{BadLine, ForecastFault};
-use crate::fields::{lacking, time_of};
+use crate::fields::{fields_of, time_of};
 use crate::options::LineForm;
 use ele_forecast::{Closings, NotClosed};
+use ele_forecast_text::{Details, Label};
 use ele_tool_words::read_time;
 use memchr::memchr;
 use std::alloc::Global;
@@ -45,42 +47,68 @@ pub(crate) fn read_input<R: Read>(alloc: Global, reader: &mut R) -> Result<Vec<u
     Err(ForecastFault::ReadFault)
 }
 
-/// Reads the closings from the lines of an input. `BadInput` with the first bad line, `NoMemory` if
-/// memory is refused.
-pub(crate) fn read_closings(
+/// What was read of lines: the closing of each, and their labels and sizes.
+#[derive(Drop)]
+pub(crate) struct ReadLines {
+    pub(crate) closings: Closings,
+    pub(crate) details: Details,
+}
+
+/// Reads the closings from the lines of an input, and the labels and sizes of the lines. `BadInput` with the first
+/// bad line, `NoMemory` if memory is refused.
+pub(crate) fn read_lines(
     alloc: Global,
     form: LineForm,
     input: &[u8],
-) -> Result<Closings, ForecastFault>
-    ensures { ReadsClosings form input.now result }
+) -> Result<ReadLines, ForecastFault>
+    ensures { ReadsLines form input.now result }
 {
-    let mut closings = Closings::new(alloc);
+    let mut read = no_lines(alloc, form);
     let mut rest = input;
     'lines: while let Some(at) = line_end(rest) {
         let (line, behind) = cut_line(rest, at);
-        add_line(form, line, &mut closings)?;
+        add_line(alloc, form, line, &mut read)?;
         rest = behind;
     }
-    add_last(form, rest, closings)
+    add_last(alloc, form, rest, read)
 }
 
-// Adds the closing of the last line, which has no line feed. Without bytes there is no such line.
-fn add_last(form: LineForm, rest: &[u8], mut closings: Closings) -> Result<Closings, ForecastFault>
+// Returns what is read of no line.
+fn no_lines(alloc: Global, form: LineForm) -> ReadLines
+    ensures closings { result.closings ≡ [] }
+    ensures details { AreDetails form.columns [] [] result.details }
+{
+    ReadLines {
+        closings: Closings::new(alloc),
+        details: Details {
+            columns: form.columns,
+            labels: Vec::new(alloc),
+            sizes: Vec::new(alloc),
+        },
+    }
+}
+
+// Adds what the last line says, which has no line feed. Without bytes there is no such line.
+fn add_last(
+    alloc: Global,
+    form: LineForm,
+    rest: &[u8],
+    mut read: ReadLines,
+) -> Result<ReadLines, ForecastFault>
     requires { IsFirstByte (is_byte 10) rest.now None }
-    ensures { (input : List ℕ) → ReadSoFar form input rest.now closings
-        → ReadsClosings form input result }
+    ensures { (input : List ℕ) → HaveRead form input rest.now read → ReadsLines form input result }
 {
     if rest.is_empty() {
-        closings.lemma_sorted();
-        return Ok(closings);
+        read.closings.lemma_sorted();
+        return Ok(read);
     }
-    add_line(form, rest, &mut closings)?;
-    closings.lemma_sorted();
-    Ok(closings)
+    add_line(alloc, form, rest, &mut read)?;
+    read.closings.lemma_sorted();
+    Ok(read)
 }
 
-/// Returns the place of the first line feed.
-pub(crate) fn line_end(bytes: &[u8]) -> Option<usize>
+// Returns the place of the first line feed.
+fn line_end(bytes: &[u8]) -> Option<usize>
     ensures { IsFirstByte (is_byte 10) bytes.now result }
 {
     memchr(b'\n', bytes)
@@ -96,21 +124,75 @@ pub(crate) fn cut_line(rest: &[u8], at: usize) -> (&[u8], &[u8])
     (line, behind.split_at(1).1)
 }
 
-// Adds the closing of the next line. `BadInput` if the line is bad, `NoMemory` if memory is refused.
-fn add_line(form: LineForm, line: &[u8], closings: &mut Closings) -> Result<(), ForecastFault>
-    ensures { AddsClosing form line.now closings.old closings.new result }
+// Adds what the next line says. `BadInput` if the line is bad, `NoMemory` if memory is refused.
+fn add_line(
+    alloc: Global,
+    form: LineForm,
+    line: &[u8],
+    read: &mut ReadLines,
+) -> Result<(), ForecastFault>
+    ensures { AddsLine form line.now read.old read.new result }
 {
-    let number = number_of_next(closings);
-    if let Some(why) = lacking(form, line) {
-        return Err(ForecastFault::BadInput(number, why));
-    }
+    let number = number_of_next(&read.closings);
+    let (size, label) = match fields_of(form, line) {
+        Ok(fields) => fields,
+        Err(why) => return Err(ForecastFault::BadInput(number, why)),
+    };
     let Ok(moment) = read_time(time_of(form, line)) else {
         return Err(ForecastFault::BadInput(number, BadLine::NotMoment));
     };
-    match closings.push(moment) {
-        Ok(()) => Ok(()),
+    match read.closings.push(moment) {
+        Ok(()) => add_details(alloc, size, label, &mut read.details),
         Err(NotClosed::OutOfOrder) => Err(ForecastFault::BadInput(number, BadLine::OutOfOrder)),
         Err(NotClosed::NoMemory) => Err(ForecastFault::NoMemory),
+    }
+}
+
+// Adds the label and the size of a line, if lines have these.
+fn add_details(
+    alloc: Global,
+    size: u64,
+    label: &[u8],
+    details: &mut Details,
+) -> Result<(), ForecastFault>
+    ensures { AddsDetails size label.now details.old details.new result }
+{
+    add_label(alloc, details.columns.labels, label, &mut details.labels)?;
+    add_size(details.columns.sizes, size, &mut details.sizes)
+}
+
+// Adds a label, if lines have labels.
+fn add_label(
+    alloc: Global,
+    has_labels: bool,
+    label: &[u8],
+    labels: &mut Vec<Label>,
+) -> Result<(), ForecastFault>
+    ensures { AddsWord has_labels label.now (texts_of labels.old.items) (texts_of labels.new.items) result }
+{
+    if !has_labels {
+        return Ok(());
+    }
+    let mut text = Vec::new(alloc);
+    if text.extend_from_slice(label).is_err() {
+        return Err(ForecastFault::NoMemory);
+    }
+    match labels.push(Label { text }) {
+        Ok(()) => Ok(()),
+        Err(_) => Err(ForecastFault::NoMemory),
+    }
+}
+
+// Adds a size, if lines have sizes.
+fn add_size(has_sizes: bool, size: u64, sizes: &mut Vec<u64>) -> Result<(), ForecastFault>
+    ensures { AddsWord has_sizes (decimal size) (map decimal sizes.old.items) (map decimal sizes.new.items) result }
+{
+    if !has_sizes {
+        return Ok(());
+    }
+    match sizes.push(size) {
+        Ok(()) => Ok(()),
+        Err(_) => Err(ForecastFault::NoMemory),
     }
 }
 

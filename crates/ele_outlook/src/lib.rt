@@ -6,9 +6,7 @@
 mod fault;
 mod fields;
 mod input;
-mod labels;
 mod options;
-mod sizes;
 mod telling;
 
 pub use fault::{BadLine, ForecastFault, put_bad_line};

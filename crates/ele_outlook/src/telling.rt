@@ -1,22 +1,16 @@
 //! Reads closings and writes forecasts. A contract sees the bytes that are read and written.
-ghost use Rattle.std.specs.Prelude.{◌≡◌, ◌≢◌, ◌∷◌, ◌++◌, ◌⊎◌, ℕ, List, true, [], IfErr, IfOk, MatchOption, OnErr, codes, decimal, length, map};
-ghost use Rattle.std.specs.Io.KnownBytes.{Keeps};
-ghost use Rattle.ele_policy.specs.PolicyText.{policy_word};
+ghost use Rattle.std.specs.Prelude.{◌≡◌, ◌≢◌, ◌∷◌, ◌⊎◌, true, [], IfOk, MatchOption, OnErr, decimal, length, map};
 ghost use Rattle.ele_output.specs.Front.{WritesText};
 ghost use Rattle.ele_output.specs.Prints.{Prints};
 ghost use Rattle.ele_forecast_text.specs.Plan.{ArePlans, versions_of};
-ghost use Rattle.ele_forecast_forms.specs.Compared.{compared_text};
 ghost use Rattle.ele_svg.specs.Drawing.{has_curves};
 ghost use Rattle.ele_outlook.specs.Foretold.{Foretells, TellsForecast};
-ghost use Rattle.ele_outlook.specs.Input.{SpellClosings, labels_of, lines_of, size_words_of};
-ghost use Rattle.ele_outlook.specs.Reading.{FailsToRead, TellsClosings};
-ghost use Rattle.ele_outlook.specs.Told.{AreDetails, AreRows, is_over, line_form, listed_numbers, numbers_at, plan_table, policy_line, stayings_of, texts_of, told_of, told_table};
+ghost use Rattle.ele_outlook.specs.Reading.{TellsClosings};
+ghost use Rattle.ele_outlook.specs.Told.{AreRows, is_over, line_form, listed_numbers, numbers_at, policy_line, stayings_of, texts_of, told_of, told_table};
 
 use crate::fault::ForecastFault;
-use crate::input::{read_closings, read_input};
-use crate::labels::read_labels;
-use crate::options::{ForecastOptions, Form, LineForm, line_form};
-use crate::sizes::read_sizes;
+use crate::input::{read_input, read_lines};
+use crate::options::{ForecastOptions, Form, line_form};
 use ele_forecast::{Closings, Forecast};
 use ele_forecast_forms::{
     Counts, counts_every, is_too_long, put_compared, put_csv, put_json, put_over_time,
@@ -24,7 +18,7 @@ use ele_forecast_forms::{
 use ele_forecast_text::{
     Details, Plan, Staying, listed_at, plan_of, plans_of, put_names, put_policy, put_table,
 };
-use ele_moment::{Moment, NoMemory, VersionNo};
+use ele_moment::{NoMemory, VersionNo};
 use ele_output::{Printer, WriteFault};
 use ele_policy::Policy;
 use ele_svg::{drawing_counts, put_drawing};
@@ -66,25 +60,8 @@ fn tell<W: Write>(
     ensures { TellsForecast options.now input.now (W.contents writer.old) (W.contents writer.new) result }
 {
     let form = line_form(options);
-    let closings = read_closings(alloc, form, input)?;
-    let details = read_details(alloc, form, input)?;
-    tell_closings(alloc, options, &closings, &details, writer)
-}
-
-// Returns the labels and sizes of the lines.
-fn read_details(alloc: Global, form: LineForm, input: &[u8]) -> Result<Details, ForecastFault>
-    ensures ok { (closings : List ℕ) → SpellClosings form (lines_of input.now) closings
-        → IfOk result (AreDetails form.columns (labels_of form (lines_of input.now))
-        (size_words_of form (lines_of input.now))) }
-    ensures err { IfErr result (FailsToRead input.now) }
-{
-    let labels = read_labels(alloc, form, input)?;
-    let sizes = read_sizes(alloc, form, input)?;
-    Ok(Details {
-        columns: form.columns,
-        labels,
-        sizes,
-    })
+    let read = read_lines(alloc, form, input)?;
+    tell_closings(alloc, options, &read.closings, &read.details, writer)
 }
 
 // Writes the forecast of these closings.
@@ -265,25 +242,10 @@ fn write_told<W: Write>(
     ensures { WritesText (told_of options.now details.now plans.now listed.now rows.now)
         (W.contents writer.old) (W.contents writer.new) result }
 {
-    put_whole(options, details, plans, listed, rows, writer)?;
-    flush(writer)
-}
-
-// Writes the output.
-fn put_whole<W: Write>(
-    options: &ForecastOptions,
-    details: &Details,
-    plans: &[Plan],
-    listed: &[VersionNo],
-    rows: &[Counts],
-    writer: &mut W,
-) -> Result<(), WriteFault>
-    ensures { WritesText (told_of options.now details.now plans.now listed.now rows.now)
-        (W.contents writer.old) (W.contents writer.new) result }
-{
     let mut printer = Printer::new(writer);
     put_told(options, details, plans, listed, rows, &mut printer);
-    printer.hand_over()
+    printer.flush();
+    printer.check()
 }
 
 // Prints the output.
@@ -319,36 +281,15 @@ fn put_told_table<W: Write>(
         (told_table options.now.named details.now plans.now (length options.now.moments.items)) }
 {
     match only_plan(plans) {
-        Some(plan) => put_named_table(options.named, details, plan, printer),
-        None => put_side_by_side(details, plans, options.moments.as_slice(), printer),
+        Some(plan) => {
+            put_policy_line(options.named, plan, printer);
+            put_table(plan, details, printer);
+        }
+        None => {
+            let moments = options.moments.as_slice();
+            put_compared(details, plans, moments.len(), printer);
+        }
     }
-}
-
-// Prints the table of several policies side by side, with these moments.
-fn put_side_by_side<W: Write>(
-    details: &Details,
-    plans: &[Plan],
-    moments: &[Moment],
-    printer: &mut Printer<'_, W>,
-)
-    ensures { Prints W.contents printer.old printer.new
-        (compared_text details.now plans.now (length moments.now)) }
-{
-    put_compared(details, plans, moments.len(), printer);
-}
-
-// Prints a line with the policy if `named` holds, and then the policy's table.
-fn put_named_table<W: Write>(
-    named: bool,
-    details: &Details,
-    plan: &Plan,
-    printer: &mut Printer<'_, W>,
-)
-    ensures { Prints W.contents printer.old printer.new
-        (policy_line named plan.now ++ plan_table details.now plan.now) }
-{
-    put_policy_line(named, plan, printer);
-    put_plan_table(details, plan, printer);
 }
 
 // Prints a line with the policy if `named` holds.
@@ -356,35 +297,8 @@ fn put_policy_line<W: Write>(named: bool, plan: &Plan, printer: &mut Printer<'_,
     ensures { Prints W.contents printer.old printer.new (policy_line named plan.now) }
 {
     if named {
-        put_policy_name(&plan.policy, printer);
-    }
-}
-
-// Prints a line with the policy.
-fn put_policy_name<W: Write>(policy: &Policy, printer: &mut Printer<'_, W>)
-    ensures { Prints W.contents printer.old printer.new
-        (codes "policy " ++ (policy_word policy.now ++ codes "\n")) }
-{
-    printer.put(b"policy ");
-    put_policy(policy, printer);
-    printer.put(b"\n");
-}
-
-// Prints the table of one policy.
-fn put_plan_table<W: Write>(details: &Details, plan: &Plan, printer: &mut Printer<'_, W>)
-    ensures { Prints W.contents printer.old printer.new (plan_table details.now plan.now) }
-{
-    let forecasts = plan.forecasts.as_slice();
-    let stayings = plan.stayings.as_slice();
-    put_table(&plan.policy, details, forecasts, stayings, printer);
-}
-
-// Flushes the writer.
-fn flush<W: Write>(writer: &mut W) -> Result<(), WriteFault>
-    ensures { Keeps (W.contents writer.old) (W.contents writer.new) }
-{
-    match writer.flush() {
-        Ok(()) => Ok(()),
-        Err(_) => Err(WriteFault),
+        printer.put(b"policy ");
+        put_policy(&plan.policy, printer);
+        printer.put(b"\n");
     }
 }

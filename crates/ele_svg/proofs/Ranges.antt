@@ -4,12 +4,6 @@ use Rattle.std.proofs.Math.Nat.{mul-div-le}
 use Rattle.std.proofs.lemmas.List.{drop_more}
 use Rattle.std.specs.List.{flat_map, fold, range_with_len}
 
--- none is done yet
-pub each_whole : (line : ℕ → List ℕ) (n : ℕ) → flat_map line (range_with_len 0 n) ≡ flat_map line (range_with_len 0 (n - 0))
-each_whole line n =
-    let e : n ≡ n - 0 = omega arith in
-    ap (λ (m : ℕ). flat_map line (range_with_len 0 m)) e
-
 range_more : (f : ℕ → ℕ) (a n : ℕ) → map f (range_with_len a n) ++ f (a + n) ∷ [] ≡ map f (range_with_len a (suc n))
 range_more f a zero =
     let same : a + 0 ≡ a = omega arith in

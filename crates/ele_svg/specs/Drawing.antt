@@ -1,5 +1,5 @@
 -- What becomes of a file's versions under some policies, as a drawing.
-use Rattle.std.specs.Prelude.{ℕ, nat_le, nat_lt, Bool, true, false, List, [], ◌∷◌, length, Option, Some, None, slice_get, if◌then◌else◌}
+use Rattle.std.specs.Prelude.{ℕ, nat_lt, Bool, true, false, List, [], ◌∷◌, length, Option, Some, None, slice_get, if◌then◌else◌}
 use Rattle.ele_forecast_forms.specs.declared.counts.Counts.{Counts}
 use Rattle.ele_forecast_text.specs.declared.plan.Plan.{Plan}
 use Rattle.ele_svg.specs.Rows.{rows_text}
@@ -15,11 +15,10 @@ has_curves (plan ∷ next ∷ plans) = true
 abbrev pub drawn_moments : List Plan → List ℕ
 drawn_moments plans = if has_curves plans then column_moments plans else []
 
--- one policy's versions have a row each if they are 200 at most
+-- without curves the versions of the policy have a row each
 abbrev pub single_text : List ℕ → List Plan → List Counts → Option Plan → List ℕ
 single_text title plans rows None = summary_text title plans rows
-single_text title plans rows (Some plan) =
-    if nat_le (length plan.forecasts.items) 200 then rows_text title plan.policy plan.forecasts.items plan.stayings.items else summary_text title plans rows
+single_text title plans rows (Some plan) = rows_text title plan
 
 abbrev pub drawing_text : List ℕ → List Plan → List Counts → List ℕ
-drawing_text title plans rows = if nat_lt 1 (length plans) then summary_text title plans rows else single_text title plans rows (slice_get plans 0)
+drawing_text title plans rows = if has_curves plans then summary_text title plans rows else single_text title plans rows (slice_get plans 0)

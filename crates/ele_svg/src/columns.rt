@@ -35,8 +35,8 @@ pub fn drawing_counts(
     }
 }
 
-// Whether a drawing has curves.
-fn has_curves(plans: &[Plan]) -> bool
+/// Whether a drawing has curves.
+pub(crate) fn has_curves(plans: &[Plan]) -> bool
     ensures { result ≡ has_curves plans.now }
 {
     match plans {

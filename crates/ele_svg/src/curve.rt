@@ -1,24 +1,18 @@
 //! The curves of a summary: how many versions stay over time. A contract sees a count as a number, and
 //! what is put as its text.
-ghost use Rattle.std.specs.Prelude.{◌≡◌, ◌<◌, ◌≤◌, ◌^◌, ◌∷◌, [], codes, max};
+ghost use Rattle.std.specs.Prelude.{◌≡◌, ◌<◌, ◌≤◌, ◌^◌, max};
 ghost use Rattle.std.specs.List.{flat_map, fold};
 ghost use Rattle.ele_output.specs.Prints.{Prints};
-ghost use Rattle.ele_svg_marks.specs.Mark.{glued, mark_text, stroke_words};
-ghost use Rattle.ele_svg.specs.Summary.{axis_line, axis_marks, count_of, curve_drawn, curve_stroke, curve_y, curves_drawn, highest_at, highest_of, point_text, points_drawn};
+ghost use Rattle.ele_svg_marks.specs.Mark.{mark_text};
+ghost use Rattle.ele_svg.specs.Curve.{count_of, curve_y, highest_of, point_text};
+ghost use Rattle.ele_svg.specs.Key.{axis_line, curve_stroke};
+ghost use Rattle.ele_svg.specs.Summary.{curve_drawn, curves_drawn};
 
 use ele_forecast_forms::Counts;
 use ele_output::Printer;
 use ele_svg_marks::{Mark, Page, Side, Stroke, Words, put_marks, put_parts};
 use itoa::Buffer;
 use std::io::Write;
-
-// The larger of two numbers.
-fn larger(a: u64, b: u64) -> u64
-    ensures value { result ≡ max a b }
-    ensures grows { a ≤ result }
-{
-    if a < b { b } else { a }
-}
 
 // The largest of these counts, and of a number before them.
 fn highest_in(highest: u64, counts: &[usize]) -> u64
@@ -27,17 +21,9 @@ fn highest_in(highest: u64, counts: &[usize]) -> u64
 {
     let mut most = highest;
     for count in counts {
-        most = larger(most, *count as u64);
+        most = most.max(*count as u64);
     }
     most
-}
-
-// The most that stay at a point under any of the policies, and a number before it.
-fn highest_at(highest: u64, row: &Counts) -> u64
-    ensures value { result ≡ highest_at highest row.now }
-    ensures rises { highest ≤ result }
-{
-    highest_in(highest, row.counts.as_slice())
 }
 
 /// Returns the most that stay at any point under any of the policies, and 1 at least.
@@ -47,7 +33,7 @@ pub(crate) fn highest_of(rows: &[Counts]) -> u64
 {
     let mut highest = 1;
     for row in rows {
-        highest = highest_at(highest, row);
+        highest = highest_in(highest, row.counts.as_slice());
     }
     highest
 }
@@ -103,17 +89,6 @@ fn put_curve<W: Write>(
     ensures { Prints W.contents printer.old printer.new
         (curve_drawn page.now highest rows.now place) }
 {
-    put_curve_opening(place, printer);
-    put_points(page, highest, place, rows, printer);
-    printer.put(b"'/>\n");
-}
-
-// Puts what stands in front of a curve's points.
-fn put_curve_opening<W: Write>(place: usize, printer: &mut Printer<'_, W>)
-    ensures { Prints W.contents printer.old printer.new
-        (glued (codes "<polyline fill='none' stroke='" ∷ stroke_words (curve_stroke place)
-        ∷ codes "' points='" ∷ [])) }
-{
     put_parts(
         &[
             b"<polyline fill='none' stroke='",
@@ -122,23 +97,10 @@ fn put_curve_opening<W: Write>(place: usize, printer: &mut Printer<'_, W>)
         ],
         printer,
     );
-}
-
-// Puts a curve's points.
-fn put_points<W: Write>(
-    page: &Page,
-    highest: u64,
-    place: usize,
-    rows: &[Counts],
-    printer: &mut Printer<'_, W>,
-)
-    requires { 0 < highest }
-    ensures { Prints W.contents printer.old printer.new
-        (points_drawn page.now highest place rows.now) }
-{
     for row in rows {
         put_point(page, highest, place, row, printer);
     }
+    printer.put(b"'/>\n");
 }
 
 // How many stay under the policy at that place.
@@ -190,26 +152,21 @@ pub(crate) fn put_axis_line<W: Write>(
         (flat_map mark_text (axis_line page.now highest count)) }
 {
     let y = curve_y(page, highest, count);
-    put_marks(&axis_marks(y, count), printer);
-}
-
-// The marks of a line of the axis that far from above.
-fn axis_marks(y: u64, count: u64) -> [Mark; 2]
-    requires { y < 2 ^ 20 }
-    ensures { result ≡ axis_marks y count }
-{
-    [
-        Mark::Line {
-            from: (150, y),
-            to: (896, y),
-            stroke: Stroke::Grid,
-        },
-        Mark::Text {
-            x: 144,
-            y: y + 3,
-            size: 9,
-            side: Side::Before,
-            words: Words::Count(count),
-        },
-    ]
+    put_marks(
+        &[
+            Mark::Line {
+                from: (150, y),
+                to: (896, y),
+                stroke: Stroke::Grid,
+            },
+            Mark::Text {
+                x: 144,
+                y: y + 3,
+                size: 9,
+                side: Side::Before,
+                words: Words::Count(count),
+            },
+        ],
+        printer,
+    );
 }

@@ -1,6 +1,8 @@
 //! The marks of a version and of a moment. A contract sees a mark as plain data.
 ghost use Rattle.std.specs.Prelude.{◌≡◌, ◌<◌, ◌^◌};
-ghost use Rattle.ele_svg.specs.Rows.{asked_marks, band_marks, band_top, bar_of, beside_of, border_marks, cause_end, due_bar_of, end_words, foot_marks, hatch_marks, kept_marks, square_of, tie_marks, version_marks};
+ghost use Rattle.ele_svg.specs.Frame.{band_top, border_marks, foot_marks};
+ghost use Rattle.ele_svg.specs.Rows.{end_words, tie_marks, version_marks};
+ghost use Rattle.ele_svg.specs.Shapes.{bar_of, beside_of, due_bar_of, square_of};
 
 use ele_forecast::{Forecast, Why};
 use ele_moment::{Moment, VersionNo};
@@ -35,8 +37,8 @@ fn due_bar(page: &Page, y: u64, from: u64) -> Mark
     }
 }
 
-// A square with that middle.
-fn square(page: &Page, x: u64, y: u64, color: Fill) -> Mark
+/// A square with that middle.
+pub(crate) fn square(page: &Page, x: u64, y: u64, color: Fill) -> Mark
     ensures { result ≡ square_of page.now x y color }
 {
     let row = page.row as u64;
@@ -64,16 +66,6 @@ fn beside(page: &Page, x: u64, y: u64, side: Side, words: Words) -> Mark
     }
 }
 
-// What is said where the bar of a version ends that its policy lets go.
-fn cause_end(cause: Cause) -> Words
-    ensures { result ≡ cause_end cause }
-{
-    match cause {
-        Cause::AtOnce | Cause::Age(_) => Words::Due,
-        Cause::Displaced { by, .. } => Words::DueBy(by),
-    }
-}
-
 // What is said where the bar of a version ends.
 fn end_words(why: Why) -> Words
     ensures { result ≡ end_words why }
@@ -81,7 +73,10 @@ fn end_words(why: Why) -> Words
     match why {
         Why::Current => Words::Current,
         Why::Never | Why::AfterLast => Words::Kept,
-        Why::Goes(cause) => cause_end(cause),
+        Why::Goes(cause) => match cause {
+            Cause::AtOnce | Cause::Age(_) => Words::Due,
+            Cause::Displaced { by, .. } => Words::DueBy(by),
+        },
     }
 }
 
@@ -122,18 +117,6 @@ pub(crate) fn tie_marks(page: &Page, number: VersionNo, ripe: Moment, other: &Fo
     ]
 }
 
-/// The mark of a moment that is asked about.
-pub(crate) fn asked_marks(page: &Page, at: Moment) -> [Mark; 1]
-    ensures { result ≡ asked_marks page.now at }
-{
-    let x = page.x(at);
-    [Mark::Line {
-        from: (x, page.top as u64),
-        to: (x, page.foot as u64),
-        stroke: Stroke::Dashed,
-    }]
-}
-
 /// The marks of a tick.
 pub(crate) fn foot_marks(page: &Page, step: Step, moment: Moment) -> [Mark; 2]
     ensures { result ≡ foot_marks page.now step moment }
@@ -169,63 +152,10 @@ pub(crate) fn border_marks(page: &Page, top: u64, moment: Moment) -> [Mark; 1]
     }]
 }
 
-/// The mark of a version that stays at a moment.
-pub(crate) fn kept_marks(page: &Page, at: Moment, number: VersionNo) -> [Mark; 1]
-    ensures { result ≡ kept_marks page.now at number }
-{
-    [square(page, page.x(at), page.y(number), Fill::Stays)]
-}
-
 /// How far from above the band of a level begins.
 pub(crate) fn band_top(level: usize) -> u64
     ensures value { result ≡ band_top level }
     ensures small { result < 2 ^ 60 }
 {
     40 + 22 * level.min(8) as u64
-}
-
-/// The marks of a level.
-pub(crate) fn band_marks(top: u64, age: u64, width: u64) -> [Mark; 2]
-    requires { top < 2 ^ 60 }
-    ensures { result ≡ band_marks top age width }
-{
-    [
-        Mark::Text {
-            x: 140,
-            y: top + 11,
-            size: 8,
-            side: Side::Before,
-            words: Words::Level(age, width),
-        },
-        Mark::Rect {
-            x: 150,
-            y: top,
-            width: 746,
-            height: 16,
-            color: Fill::Paper,
-        },
-    ]
-}
-
-/// The marks of spans that are too narrow to be seen.
-pub(crate) fn hatch_marks(top: u64) -> [Mark; 2]
-    requires { top < 2 ^ 60 }
-    ensures { result ≡ hatch_marks top }
-{
-    [
-        Mark::Rect {
-            x: 150,
-            y: top,
-            width: 746,
-            height: 16,
-            color: Fill::Hatched,
-        },
-        Mark::Text {
-            x: 523,
-            y: top + 11,
-            size: 9,
-            side: Side::Around,
-            words: Words::Narrow,
-        },
-    ]
 }

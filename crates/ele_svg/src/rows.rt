@@ -3,20 +3,19 @@ ghost use Rattle.std.specs.Prelude.{◌≡◌, ◌<◌, ◌≤◌, ◌+◌, ◌-
 ghost use Rattle.std.specs.List.{flat_map};
 ghost use Rattle.ele_policy.specs.Ladder.{level_of};
 ghost use Rattle.ele_output.specs.Prints.{Prints};
-ghost use Rattle.ele_svg.specs.Rows.{IsOnPage, band_drawn, band_marks, band_top, foot_drawn, frame_drawn, kept_drawn, kept_marks, moment_drawn, rows_drawn, rows_text, scale_drawn, scale_marks, spans_drawn, tick_marks, tie_from, ties_for, version_drawn, version_tied};
+ghost use Rattle.ele_svg.specs.Frame.{IsOnPage, band_drawn, band_marks, band_top, foot_drawn, frame_drawn, scale_drawn, scale_marks, spans_drawn, tick_marks};
+ghost use Rattle.ele_svg.specs.Rows.{kept_drawn, kept_marks, moment_drawn, rows_drawn, rows_text, tie_from, version_drawn, version_tied};
 ghost use Rattle.ele_svg_marks.specs.Mark.{mark_text};
 
-use crate::marks::{
-    asked_marks, band_marks, band_top, border_marks, foot_marks, hatch_marks, kept_marks,
-    tie_marks, version_marks,
-};
+use crate::marks::{band_top, border_marks, foot_marks, square, tie_marks, version_marks};
 use ele_forecast::{Forecast, Why};
-use ele_forecast_text::{Staying, put_version};
+use ele_forecast_text::{Plan, Staying, put_version};
 use ele_moment::{Moment, VersionNo};
 use ele_output::Printer;
 use ele_policy::{Cause, Policy};
 use ele_svg_marks::{
-    Page, Step, page_of, put_head, put_heading, put_labels, put_legend, put_marks, rungs_of,
+    Fill, Mark, Page, Side, Step, Stroke, Words, page_of, put_head, put_heading, put_labels,
+    put_legend, put_marks, rungs_of,
 };
 use std::io::Write;
 
@@ -28,17 +27,13 @@ pub(crate) enum Scale {
     Band(u64),
 }
 
-/// Puts a drawing with a row for each version.
-pub(crate) fn put_rows_drawing<W: Write>(
-    title: &[u8],
-    policy: &Policy,
-    forecasts: &[Forecast],
-    stayings: &[Staying],
-    printer: &mut Printer<'_, W>,
-)
-    ensures { Prints W.contents printer.old printer.new
-        (rows_text title.now policy.now forecasts.now stayings.now) }
+/// Puts a drawing with a row for each version of a plan.
+pub(crate) fn put_rows_drawing<W: Write>(title: &[u8], plan: &Plan, printer: &mut Printer<'_, W>)
+    ensures { Prints W.contents printer.old printer.new (rows_text title.now plan.now) }
 {
+    let policy = &plan.policy;
+    let forecasts = plan.forecasts.as_slice();
+    let stayings = plan.stayings.as_slice();
     let page = page_of(policy, forecasts, stayings);
     put_frame(&page, title, policy, forecasts.len(), printer);
     put_rows(&page, policy, forecasts, stayings, printer);
@@ -169,7 +164,25 @@ fn put_band<W: Write>(page: &Page, level: usize, rung: (u64, u64), printer: &mut
         ++ spans_drawn page.now (band_top level) rung.1) }
 {
     let top = band_top(level);
-    put_marks(&band_marks(top, rung.0, rung.1), printer);
+    put_marks(
+        &[
+            Mark::Text {
+                x: 140,
+                y: top + 11,
+                size: 8,
+                side: Side::Before,
+                words: Words::Level(rung.0, rung.1),
+            },
+            Mark::Rect {
+                x: 150,
+                y: top,
+                width: 746,
+                height: 16,
+                color: Fill::Paper,
+            },
+        ],
+        printer,
+    );
     put_spans(page, top, rung.1, printer);
 }
 
@@ -181,7 +194,21 @@ fn put_spans<W: Write>(page: &Page, top: u64, width: u64, printer: &mut Printer<
     if page.span() / 248 < width {
         put_scale(page, Scale::Band(top), width, printer);
     } else {
-        put_marks(&hatch_marks(top), printer);
+        let hatches = Mark::Rect {
+            x: 150,
+            y: top,
+            width: 746,
+            height: 16,
+            color: Fill::Hatched,
+        };
+        let narrow = Mark::Text {
+            x: 523,
+            y: top + 11,
+            size: 9,
+            side: Side::Around,
+            words: Words::Narrow,
+        };
+        put_marks(&[hatches, narrow], printer);
     }
 }
 
@@ -206,25 +233,11 @@ fn put_tie<W: Write>(
         (version_tied page.now forecasts.now forecast.now) }
 {
     match forecast.why {
-        Why::Goes(cause) => put_tie_for(page, forecasts, forecast, cause, printer),
+        Why::Goes(cause) => match cause {
+            Cause::Displaced { by, .. } => put_tie_to(page, forecasts, forecast, by, printer),
+            Cause::AtOnce | Cause::Age(_) => {}
+        },
         Why::Current | Why::Never | Why::AfterLast => {}
-    }
-}
-
-// Puts that of a version that its policy lets go for that cause.
-fn put_tie_for<W: Write>(
-    page: &Page,
-    forecasts: &[Forecast],
-    forecast: &Forecast,
-    cause: Cause,
-    printer: &mut Printer<'_, W>,
-)
-    ensures { Prints W.contents printer.old printer.new
-        (flat_map mark_text (ties_for page.now forecasts.now forecast.now cause)) }
-{
-    match cause {
-        Cause::Displaced { by, .. } => put_tie_to(page, forecasts, forecast, by, printer),
-        Cause::AtOnce | Cause::Age(_) => {}
     }
 }
 
@@ -255,7 +268,13 @@ pub(crate) fn put_moments<W: Write>(page: &Page, stayings: &[Staying], printer: 
         (flat_map (moment_drawn page.now) stayings.now) }
 {
     for staying in stayings {
-        put_marks(&asked_marks(page, staying.at), printer);
+        let x = page.x(staying.at);
+        let line = Mark::Line {
+            from: (x, page.top as u64),
+            to: (x, page.foot as u64),
+            stroke: Stroke::Dashed,
+        };
+        put_marks(&[line], printer);
     }
 }
 
@@ -270,25 +289,12 @@ fn put_versions<W: Write>(
         (flat_map (version_drawn policy.now page.now) forecasts.now) }
 {
     for forecast in forecasts {
-        put_drawn(page, policy, forecast, printer);
+        printer.put(b"<g><title>version ");
+        put_version(policy, forecast, printer);
+        printer.put(b"</title>\n");
+        put_marks(&version_marks(page, forecast), printer);
+        printer.put(b"</g>\n");
     }
-}
-
-// Puts a version.
-fn put_drawn<W: Write>(
-    page: &Page,
-    policy: &Policy,
-    forecast: &Forecast,
-    printer: &mut Printer<'_, W>,
-)
-    ensures { Prints W.contents printer.old printer.new
-        (version_drawn policy.now page.now forecast.now) }
-{
-    printer.put(b"<g><title>version ");
-    put_version(policy, forecast, printer);
-    printer.put(b"</title>\n");
-    put_marks(&version_marks(page, forecast), printer);
-    printer.put(b"</g>\n");
 }
 
 // Puts which versions stay at each moment.
@@ -312,6 +318,7 @@ fn put_kept_at<W: Write>(
         (flat_map (λ number. flat_map mark_text (kept_marks page.now at number)) numbers.now) }
 {
     for number in numbers {
-        put_marks(&kept_marks(page, at, *number), printer);
+        let mark = square(page, page.x(at), page.y(*number), Fill::Stays);
+        put_marks(&[mark], printer);
     }
 }

@@ -1,10 +1,9 @@
 //! The strips of a summary: the versions that pass each level of a ladder. A contract sees what is put as
 //! its text.
-ghost use Rattle.std.specs.Prelude.{◌≡◌, ◌<◌, ◌^◌, ◌++◌, codes};
-ghost use Rattle.std.specs.List.{flat_map};
+ghost use Rattle.std.specs.Prelude.{◌≡◌, ◌<◌, ◌^◌};
 ghost use Rattle.ele_output.specs.Prints.{Prints};
-ghost use Rattle.ele_svg_marks.specs.Mark.{mark_text};
-ghost use Rattle.ele_svg.specs.Summary.{is_seen, last_if, last_seen, level_strip, passes, passes_by, strip_drawn, strip_marks, strip_tick, strip_top, strips_drawn, tick_if};
+ghost use Rattle.ele_svg.specs.Key.{strip_top};
+ghost use Rattle.ele_svg.specs.Strips.{is_seen, last_if, last_seen, passes, strip_drawn, strip_tick, strips_drawn, tick_if};
 ghost use Rattle.ele_svg_marks.specs.Walk.{walked};
 
 use crate::rows::level_of;
@@ -25,19 +24,6 @@ pub(crate) fn put_strips<W: Write>(
         (strips_drawn page.now rungs.now forecasts.now) }
 {
     put_strip(page, 0, Words::Closings, forecasts, printer);
-    put_level_strips(page, rungs, forecasts, printer);
-}
-
-// Puts a strip for each level.
-fn put_level_strips<W: Write>(
-    page: &Page,
-    rungs: &[(u64, u64)],
-    forecasts: &[Forecast],
-    printer: &mut Printer<'_, W>,
-)
-    ensures { Prints W.contents printer.old printer.new
-        (flat_map (level_strip page.now rungs.now forecasts.now) rungs.now) }
-{
     for rung in rungs {
         let words = Words::Level(rung.0, rung.1);
         put_strip(page, level_of(rungs, rung.0), words, forecasts, printer);
@@ -56,7 +42,25 @@ fn put_strip<W: Write>(
         (strip_drawn page.now level words forecasts.now) }
 {
     let top = strip_top(page, level);
-    put_marks(&strip_marks(top, words), printer);
+    put_marks(
+        &[
+            Mark::Text {
+                x: 140,
+                y: top + 11,
+                size: 8,
+                side: Side::Before,
+                words,
+            },
+            Mark::Rect {
+                x: 150,
+                y: top,
+                width: 746,
+                height: 16,
+                color: Fill::Paper,
+            },
+        ],
+        printer,
+    );
     put_ticks(page, top, level, forecasts, printer);
 }
 
@@ -66,29 +70,6 @@ fn strip_top(page: &Page, level: usize) -> u64
     ensures small { result < 2 ^ 60 }
 {
     page.top as u64 + 254 + 22 * level.min(8) as u64
-}
-
-// The marks of a strip without its ticks.
-fn strip_marks(top: u64, words: Words) -> [Mark; 2]
-    requires { top < 2 ^ 60 }
-    ensures { result ≡ strip_marks top words }
-{
-    [
-        Mark::Text {
-            x: 140,
-            y: top + 11,
-            size: 8,
-            side: Side::Before,
-            words,
-        },
-        Mark::Rect {
-            x: 150,
-            y: top,
-            width: 746,
-            height: 16,
-            color: Fill::Paper,
-        },
-    ]
 }
 
 // Puts the ticks of a strip.
@@ -148,22 +129,15 @@ fn last_seen(page: &Page, seen: bool, last: u64, forecast: &Forecast) -> u64
     if seen { page.x(forecast.closed) } else { last }
 }
 
-// Whether a version that goes for that cause passes a level.
-fn passes_by(level: usize, cause: Cause) -> bool
-    ensures { result ≡ passes_by level cause }
-{
-    match cause {
-        Cause::Displaced { level: at, .. } => level < at,
-        Cause::AtOnce | Cause::Age(_) => true,
-    }
-}
-
 // Whether a version passes a level.
 fn passes(level: usize, why: Why) -> bool
     ensures { result ≡ passes level why }
 {
     match why {
-        Why::Goes(cause) => passes_by(level, cause),
+        Why::Goes(cause) => match cause {
+            Cause::Displaced { level: at, .. } => level < at,
+            Cause::AtOnce | Cause::Age(_) => true,
+        },
         Why::Current | Why::Never | Why::AfterLast => true,
     }
 }

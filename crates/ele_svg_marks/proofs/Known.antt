@@ -3,19 +3,9 @@ use Rattle.std.proofs.Common.{◌≡◌, ℕ, zero, suc, ◌+◌, ◌-◌, ◌<�
 use Rattle.std.specs.List.{flat_map, fold, join_with_byte, range_with_len}
 use Rattle.std.specs.Prelude.{codes, decimal}
 use Rattle.ele_forecast_text.proofs.Known.{fronted}
-use Rattle.ele_svg_marks.specs.Head.{floor_words, titled}
+use Rattle.ele_svg_marks.specs.Escaped.{titled}
+use Rattle.ele_svg_marks.specs.Head.{floor_words}
 use Rattle.ele_forecast_text.specs.Why.{spaced}
-
--- at a number, it is next
-pub each_more : (line : ℕ → List ℕ) (k n : ℕ) → k < n → flat_map line (range_with_len k (n - k)) ≡ line k ++ flat_map line (range_with_len (k + 1) (n - (k + 1)))
-each_more line k n lt =
-    let e : n - k ≡ suc (n - (k + 1)) = omega (arith, lt) in
-    ap (λ (m : ℕ). flat_map line (range_with_len k m)) e
-
-pub each_none : (line : ℕ → List ℕ) (k n : ℕ) → n ≤ k → flat_map line (range_with_len k (n - k)) ≡ []
-each_none line k n le =
-    let e : n - k ≡ 0 = omega (arith, le) in
-    ap (λ (m : ℕ). flat_map line (range_with_len k m)) e
 
 -- the numbers behind one and up to another, told by where they begin and end
 pub each_between : (line : ℕ → List ℕ) (a b first behind : ℕ) → first ≡ a + 1 → behind ≡ b + 1 → flat_map line (range_with_len (a + 1) (b - a)) ≡ flat_map line (range_with_len first (behind - first))
@@ -27,18 +17,6 @@ each_between line a b first behind e f =
 pub floor_parts : (n : ℕ) → 0 < n → join_with_byte 32 (codes " with a floor of" ∷ decimal n ∷ []) ≡ spaced (floor_words n)
 floor_parts zero some = absurd (omega arith)
 floor_parts (suc n) some = fronted (codes "with a floor of") (decimal (suc n) ∷ [])
-
--- at a number, it is taken in
-pub fold_range_more : {B : Type 0} (f : B → ℕ → B) (b : B) (k n : ℕ) → k < n → fold f b (range_with_len k (n - k)) ≡ fold f (f b k) (range_with_len (k + 1) (n - (k + 1)))
-fold_range_more f b k n lt =
-    let e : n - k ≡ suc (n - (k + 1)) = omega (arith, lt) in
-    ap (λ (m : ℕ). fold f b (range_with_len k m)) e
-
--- at the last one, nothing is
-pub fold_range_end : {B : Type 0} (f : B → ℕ → B) (b : B) (k n : ℕ) → n ≤ k → fold f b (range_with_len k (n - k)) ≡ b
-fold_range_end f b k n le =
-    let e : n - k ≡ 0 = omega (arith, le) in
-    ap (λ (m : ℕ). fold f b (range_with_len k m)) e
 
 -- what stands in place of a title that has no byte
 pub titled_none : (title : List ℕ) → length title < 1 → titled title ≡ codes "Retention forecast"

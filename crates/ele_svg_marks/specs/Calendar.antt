@@ -1,10 +1,12 @@
 -- The ticks at the bottom of a drawing: which moments they are, and what is written there.
-use Rattle.std.specs.Prelude.{ℕ, ◌+◌, ◌-◌, ◌*◌, ◌/◌, ◌%◌, ◌==◌, ◌&&◌, max, nat_le, nat_lt, Bool, true, if◌then◌else◌}
+use Rattle.std.specs.Prelude.{Bool, if◌then◌else◌, max, nat_le, nat_lt, true, ℕ, ◌%◌, ◌&&◌, ◌*◌, ◌+◌, ◌-◌, ◌/◌, ◌==◌}
 use Rattle.ele_forecast_text.specs.Stamp.{date_of}
+use Rattle.ele_svg_marks.specs.Places.{span_of}
 use Rattle.ele_svg_marks.specs.declared.calendar.Step.{Step}
 use Rattle.ele_svg_marks.specs.declared.calendar.Step.TheVariants as step
 use Rattle.ele_svg_marks.specs.declared.mark.Words.{Words}
 use Rattle.ele_svg_marks.specs.declared.mark.Words.TheVariants as words
+use Rattle.ele_svg_marks.specs.declared.page.Page.{Page}
 
 -- the step of some hours: the first round number of seconds of which seven cover the span
 abbrev pub short_step : ℕ → ℕ
@@ -29,6 +31,9 @@ month_step span =
 abbrev pub step_for : ℕ → Step
 step_for span =
     if nat_le span 21600 then step.Seconds (short_step span) else (if nat_le span 5443200 then day_step span else step.Months (month_step span))
+
+abbrev pub step_of : Page → Step
+step_of page = step_for (span_of page)
 
 -- each tick is a multiple of so many seconds
 abbrev pub seconds_of : Step → ℕ
@@ -55,3 +60,7 @@ abbrev pub date_words : Step → ℕ → Words
 date_words (step.Seconds seconds) moment = if nat_lt seconds 86400 then words.Stamp moment else words.Date moment
 date_words step.Mondays moment = words.Date moment
 date_words (step.Months months) moment = if nat_lt months 12 then words.Month moment else words.Year moment
+
+-- a moment is told by its seconds in a drawing of the first ten days, and else by its date
+abbrev pub in_seconds : Page → ℕ → Words → Words
+in_seconds page moment date = if nat_lt page.last 864000 then words.Seconds moment else date

@@ -1,36 +1,17 @@
 -- What stands above a drawing: its title, what it draws, and what its colours mean.
-use Rattle.std.specs.Prelude.{ℕ, zero, suc, ◌==◌, ◌&&◌, ◌||◌, nat_le, nat_lt, List, [], ◌∷◌, ◌++◌, codes, decimal, if◌then◌else◌}
 use Rattle.std.specs.List.{flat_map, join_with_byte}
+use Rattle.std.specs.Prelude.{List, [], codes, decimal, suc, zero, ℕ, ◌*◌, ◌++◌, ◌+◌, ◌-◌, ◌/◌, ◌∷◌}
+use Rattle.ele_forecast_text.specs.Why.{length_words}
 use Rattle.ele_policy.specs.Ladder.{Rung}
 use Rattle.ele_policy.specs.declared.policy.Policy.{Policy}
 use Rattle.ele_policy.specs.declared.policy.Policy.TheVariants as policy
-use Rattle.ele_forecast_text.specs.Why.{length_words}
+use Rattle.ele_svg_marks.specs.Escaped.{titled}
 use Rattle.ele_svg_marks.specs.Mark.{glued}
-use Rattle.ele_svg_marks.specs.Page.{height_of}
-use Rattle.ele_svg_marks.specs.Walk.{walked}
 use Rattle.ele_svg_marks.specs.declared.page.Page.{Page}
 
--- a byte of a title: what XML reserves is written as a reference, and a control byte as a space
-abbrev pub escaped_byte : ℕ → List ℕ
-escaped_byte byte =
-    if byte == 38 then codes "&amp;" else (if byte == 60 then codes "&lt;" else (if byte == 62 then codes "&gt;" else (if byte == 39 then codes "&#39;"
-    else (if byte == 34 then codes "&quot;" else (if nat_lt byte 32 || (byte == 127) then codes " " else byte ∷ [])))))
-
--- the characters U+FFFE and U+FFFF begin with the bytes 239 and 191: how many of these a byte ends, after so many
-abbrev pub begun_after : ℕ → ℕ → ℕ
-begun_after begun byte = if byte == 239 then 1 else (if (begun == 1) && (byte == 191) then 2 else 0)
-
--- XML has no such characters: their third byte, 190 or 191, is written as 189, which makes U+FFFD of them
-abbrev pub escaped_at : ℕ → ℕ → List ℕ
-escaped_at begun byte = if (begun == 2) && (nat_le 190 byte && nat_le byte 191) then 189 ∷ [] else escaped_byte byte
-
-abbrev pub escaped : List ℕ → List ℕ
-escaped title = walked escaped_at begun_after 0 title
-
--- a title, or what stands in its place
-abbrev pub titled : List ℕ → List ℕ
-titled [] = codes "Retention forecast"
-titled (byte ∷ bytes) = escaped (byte ∷ bytes)
+-- below the rows are the ticks, and rows of labels
+abbrev pub height_of : Page → ℕ
+height_of page = page.foot + 24 + 12 * page.labels
 
 -- the name of a floor, and none for none
 abbrev pub floor_words : ℕ → List (List ℕ)
@@ -63,7 +44,7 @@ head_drawn page title =
 -- how many versions there are, and their policy
 abbrev pub heading_drawn : Policy → ℕ → List ℕ
 heading_drawn policy count =
-    codes "<text x='20' y='37' font-size='11'>" ++ (join_with_byte 32 (decimal count ∷ codes "versions under" ∷ []) ++ (policy_name policy ++ codes "</text>\n"))
+    (codes "<text x='20' y='37' font-size='11'>" ++ decimal count) ++ (codes " versions under" ++ (policy_name policy ++ codes "</text>\n"))
 
 -- what the colours of a row mean
 abbrev pub legend_drawn : List ℕ

@@ -1,6 +1,9 @@
 pub mod Calendar
+pub mod Escaped
 pub mod Head
 pub mod Labels
 pub mod Mark
 pub mod Page
+pub mod Places
+pub mod Shelves
 pub mod Walk

@@ -1,15 +1,15 @@
 //! What stands above a drawing. A contract sees its text, and a printer as its outlet.
-ghost use Rattle.std.specs.Prelude.{◌≡◌, ◌++◌, ◌∷◌, [], codes, decimal};
-ghost use Rattle.std.specs.List.{flat_map, join_with_byte};
+ghost use Rattle.std.specs.Prelude.{◌≡◌};
+ghost use Rattle.std.specs.List.{flat_map};
 ghost use Rattle.ele_output.specs.Prints.{Prints};
-ghost use Rattle.ele_forecast_text.specs.Why.{length_words, spaced};
-ghost use Rattle.ele_svg_marks.specs.Head.{begun_after, escaped, escaped_at, escaped_byte, floor_words, head_drawn, heading_drawn, legend_drawn, policy_name, rung_text, titled};
-ghost use Rattle.ele_svg_marks.specs.Mark.{glued};
+ghost use Rattle.ele_forecast_text.specs.Why.{spaced};
+ghost use Rattle.ele_svg_marks.specs.Escaped.{begun_after, escaped, escaped_at, escaped_byte, titled};
+ghost use Rattle.ele_svg_marks.specs.Head.{floor_words, head_drawn, heading_drawn, legend_drawn, policy_name, rung_text};
 
 use crate::mark::put_parts;
 use crate::page::Page;
 use ele_forecast_text::put_length;
-use ele_output::{Printer, put_words};
+use ele_output::{Printer, put_with_number, put_words};
 use ele_policy::{Floor, Policy};
 use itoa::Buffer;
 use std::io::Write;
@@ -18,53 +18,31 @@ use std::io::Write;
 pub fn put_head<W: Write>(page: &Page, title: &[u8], printer: &mut Printer<'_, W>)
     ensures { Prints W.contents printer.old printer.new (head_drawn page.now title.now) }
 {
-    put_opening(page.height(), printer);
-    put_titled(title, printer);
-    put_background(page.height(), printer);
-    put_titled(title, printer);
-    printer.put(b"</text>\n");
-}
-
-// Puts the document's opening.
-fn put_opening<W: Write>(height: u64, printer: &mut Printer<'_, W>)
-    ensures { Prints W.contents printer.old printer.new (
-        glued (codes "<?xml version='1.0' encoding='UTF-8'?>\n"
-        ∷ codes "<!DOCTYPE svg PUBLIC '-//W3C//DTD SVG 1.1//EN' 'http://www.w3.org/Graphics/SVG/1.1/DTD/svg11.dtd'>\n"
-        ∷ codes "<svg xmlns='http://www.w3.org/2000/svg' version='1.1' font-family='sans-serif' width='960' height='"
-        ∷ decimal height ∷ codes "'>\n<title>" ∷ [])) }
-{
     let mut digits = Buffer::new();
+    let height = digits.format(page.height()).as_bytes();
     put_parts(
         &[
             b"<?xml version='1.0' encoding='UTF-8'?>\n",
             b"<!DOCTYPE svg PUBLIC '-//W3C//DTD SVG 1.1//EN' 'http://www.w3.org/Graphics/SVG/1.1/DTD/svg11.dtd'>\n",
             b"<svg xmlns='http://www.w3.org/2000/svg' version='1.1' font-family='sans-serif' width='960' height='",
-            digits.format(height).as_bytes(),
+            height,
             b"'>\n<title>",
         ],
         printer,
     );
-}
-
-// Puts what stands between the two places of the title.
-fn put_background<W: Write>(height: u64, printer: &mut Printer<'_, W>)
-    ensures { Prints W.contents printer.old printer.new (
-        glued (codes "</title>\n<style>text{paint-order:stroke;stroke:#fff;stroke-width:5px;stroke-linejoin:round}</style>\n"
-        ∷ codes "<defs><pattern id='hatch' width='6' height='6' patternUnits='userSpaceOnUse'><path d='M0,6 6,0' stroke='#555' stroke-width='0.8'/></pattern></defs>\n"
-        ∷ codes "<rect width='960' height='" ∷ decimal height
-        ∷ codes "' fill='#fff'/>\n<text x='20' y='20' font-size='15'>" ∷ [])) }
-{
-    let mut digits = Buffer::new();
+    put_titled(title, printer);
     put_parts(
         &[
             b"</title>\n<style>text{paint-order:stroke;stroke:#fff;stroke-width:5px;stroke-linejoin:round}</style>\n",
             b"<defs><pattern id='hatch' width='6' height='6' patternUnits='userSpaceOnUse'><path d='M0,6 6,0' stroke='#555' stroke-width='0.8'/></pattern></defs>\n",
             b"<rect width='960' height='",
-            digits.format(height).as_bytes(),
+            height,
             b"' fill='#fff'/>\n<text x='20' y='20' font-size='15'>",
         ],
         printer,
     );
+    put_titled(title, printer);
+    printer.put(b"</text>\n");
 }
 
 // Puts a title, or what stands in its place.
@@ -131,23 +109,14 @@ fn put_escaped_byte<W: Write>(byte: u8, printer: &mut Printer<'_, W>)
 pub fn put_heading<W: Write>(policy: &Policy, count: usize, printer: &mut Printer<'_, W>)
     ensures { Prints W.contents printer.old printer.new (heading_drawn policy.now count) }
 {
-    printer.put(b"<text x='20' y='37' font-size='11'>");
-    put_count(count, printer);
-    put_name(policy, printer);
-    printer.put(b"</text>\n");
-}
-
-// Puts how many versions there are.
-fn put_count<W: Write>(count: usize, printer: &mut Printer<'_, W>)
-    ensures { Prints W.contents printer.old printer.new
-        (join_with_byte 32 (decimal count ∷ codes "versions under" ∷ [])) }
-{
-    let mut digits = Buffer::new();
-    put_words(
-        digits.format(count).as_bytes(),
-        &[b"versions under"],
+    put_with_number(
+        b"<text x='20' y='37' font-size='11'>",
+        count as u64,
         printer,
     );
+    printer.put(b" versions under");
+    put_name(policy, printer);
+    printer.put(b"</text>\n");
 }
 
 /// Puts a space and the name of a policy with its numbers.
@@ -189,16 +158,9 @@ fn put_rungs<W: Write>(rungs: &[(u64, u64)], printer: &mut Printer<'_, W>)
     ensures { Prints W.contents printer.old printer.new (flat_map rung_text rungs.now) }
 {
     for rung in rungs {
-        put_rung(*rung, printer);
+        put_length(b",", rung.0, printer);
+        put_length(b" /", rung.1, printer);
     }
-}
-
-// Puts a level of a ladder.
-fn put_rung<W: Write>(rung: (u64, u64), printer: &mut Printer<'_, W>)
-    ensures { Prints W.contents printer.old printer.new (rung_text rung) }
-{
-    put_length(b",", rung.0, printer);
-    put_length(b" /", rung.1, printer);
 }
 
 /// Puts what the colours of a row mean.

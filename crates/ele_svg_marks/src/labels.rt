@@ -3,7 +3,8 @@
 ghost use Rattle.std.specs.Prelude.{◌≡◌, ◌<◌, ◌≤◌, ◌^◌};
 ghost use Rattle.std.specs.List.{flat_map};
 ghost use Rattle.ele_output.specs.Prints.{Prints};
-ghost use Rattle.ele_svg_marks.specs.Labels.{empty_shelf, empty_shelves, is_free, label_drawn, label_mark, label_marks, label_width, labels_drawn, row_for, shelved_on, stretched};
+ghost use Rattle.ele_svg_marks.specs.Labels.{label_drawn, label_marks, labels_drawn};
+ghost use Rattle.ele_svg_marks.specs.Shelves.{empty_shelf, empty_shelves, is_free, label_width, row_for, shelved_on, stretched};
 ghost use Rattle.ele_svg_marks.specs.Mark.{mark_text};
 
 use crate::mark::{Mark, Side, Words, put_marks};
@@ -131,20 +132,13 @@ fn put_label<W: Write>(page: &Page, row: u64, at: Moment, printer: &mut Printer<
         (flat_map mark_text (label_marks page.now row at)) }
 {
     if row < 3 {
-        put_marks(&[label(page, row, at)], printer);
-    }
-}
-
-// The label of a moment.
-fn label(page: &Page, row: u64, at: Moment) -> Mark
-    requires { row ≤ 3 }
-    ensures { result ≡ label_mark page.now row at }
-{
-    Mark::Text {
-        x: page.x(at),
-        y: page.foot as u64 + 26 + 12 * row,
-        size: 10,
-        side: Side::Around,
-        words: page.in_seconds(at, Words::Stamp(at)),
+        let label = Mark::Text {
+            x: page.x(at),
+            y: page.foot as u64 + 26 + 12 * row,
+            size: 10,
+            side: Side::Around,
+            words: page.in_seconds(at, Words::Stamp(at)),
+        };
+        put_marks(&[label], printer);
     }
 }

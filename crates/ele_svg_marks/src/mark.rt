@@ -1,15 +1,13 @@
 //! What a drawing is made of. A contract sees a mark as plain data, and what is put of it as its
 //! text.
-ghost use Rattle.std.specs.Prelude.{◌≡◌, ◌≤◌, ◌∷◌, ◌++◌, [], codes, decimal, take};
-ghost use Rattle.std.specs.List.{flat_map, join_with_byte};
+ghost use Rattle.std.specs.Prelude.{◌≡◌, ◌≤◌, ◌∷◌, ◌++◌, [], codes, decimal};
+ghost use Rattle.std.specs.List.{flat_map};
 ghost use Rattle.ele_output.specs.Prints.{Prints};
-ghost use Rattle.ele_forecast_text.specs.Stamp.{stamp_of};
-ghost use Rattle.ele_forecast_text.specs.Why.{length_words};
 ghost use Rattle.ele_svg_marks.specs.Mark.{fill_word, stroke_text, mark_text, opening, rect_text, side_word, stroke_words, label_text};
 
 use ele_forecast_text::{put_length, stamp_of};
 use ele_moment::{Moment, VersionNo};
-use ele_output::Printer;
+use ele_output::{Printer, put_number};
 use itoa::Buffer;
 use std::io::Write;
 
@@ -241,15 +239,6 @@ fn put_text<W: Write>(at: Place, size: u64, side: Side, words: &Words, printer: 
     ensures { Prints W.contents printer.old printer.new
         (opening at.0 at.1 size side ++ (label_text words.now ++ codes "</text>\n")) }
 {
-    put_opening(at, size, side, printer);
-    put_said(words, printer);
-    printer.put(b"</text>\n");
-}
-
-// Puts what stands in front of a text.
-fn put_opening<W: Write>(at: Place, size: u64, side: Side, printer: &mut Printer<'_, W>)
-    ensures { Prints W.contents printer.old printer.new (opening at.0 at.1 size side) }
-{
     let mut x = Buffer::new();
     let mut y = Buffer::new();
     let mut digits = Buffer::new();
@@ -267,6 +256,8 @@ fn put_opening<W: Write>(at: Place, size: u64, side: Side, printer: &mut Printer
         ],
         printer,
     );
+    put_said(words, printer);
+    printer.put(b"</text>\n");
 }
 
 // Puts what a text says.
@@ -287,7 +278,10 @@ fn put_said<W: Write>(words: &Words, printer: &mut Printer<'_, W>)
         Words::Date(moment) => printer.put(&stamp_of(*moment)[..10]),
         Words::Month(moment) => printer.put(&stamp_of(*moment)[..7]),
         Words::Year(moment) => printer.put(&stamp_of(*moment)[..4]),
-        Words::Level(age, width) => put_level(*age, *width, printer),
+        Words::Level(age, width) => {
+            put_length(b"age", *age, printer);
+            put_length(b", span", *width, printer);
+        }
     }
 }
 
@@ -298,22 +292,4 @@ fn put_numbered<W: Write>(word: &[u8], number: VersionNo, printer: &mut Printer<
 {
     let mut digits = Buffer::new();
     put_parts(&[word, digits.format(number.0).as_bytes()], printer);
-}
-
-// Puts a number.
-fn put_number<W: Write>(number: u64, printer: &mut Printer<'_, W>)
-    ensures { Prints W.contents printer.old printer.new (decimal number) }
-{
-    let mut digits = Buffer::new();
-    printer.put(digits.format(number).as_bytes());
-}
-
-// Puts an age of a ladder and a width.
-fn put_level<W: Write>(age: u64, width: u64, printer: &mut Printer<'_, W>)
-    ensures { Prints W.contents printer.old printer.new
-        (join_with_byte 32 (codes "age" ∷ length_words age)
-        ++ join_with_byte 32 (codes ", span" ∷ length_words width)) }
-{
-    put_length(b"age", age, printer);
-    put_length(b", span", width, printer);
 }

@@ -1,8 +1,10 @@
 //! Where a drawing has its moments and its rows. A contract sees a page as plain data, and a place
 //! as pixels.
-ghost use Rattle.std.specs.Prelude.{◌≡◌, ◌+◌, ◌*◌, ◌/◌, ◌<◌, ◌≤◌, ◌^◌, length, max, min};
-ghost use Rattle.std.specs.List.{fold};
-ghost use Rattle.ele_svg_marks.specs.Page.{height_of, in_seconds, label_rows, last_drawn, page_of, row_height, rungs_of, span_of, step_of, x_of, x_or, y_of};
+ghost use Rattle.std.specs.Prelude.{◌≡◌, ◌+◌, ◌*◌, ◌/◌, ◌<◌, ◌≤◌, ◌^◌, length, min};
+ghost use Rattle.ele_svg_marks.specs.Calendar.{in_seconds, step_of};
+ghost use Rattle.ele_svg_marks.specs.Head.{height_of};
+ghost use Rattle.ele_svg_marks.specs.Page.{label_rows, row_height, rungs_of};
+ghost use Rattle.ele_svg_marks.specs.Places.{last_drawn, page_of, span_of, x_of, x_or, y_of};
 
 use crate::calendar::{Step, step_for};
 use crate::mark::Words;
@@ -106,17 +108,6 @@ fn row_height(count: usize) -> u16
     if count <= 60 { 18 } else { 10 }
 }
 
-// The last of these moments, and of the one before them.
-fn last_asked(first: Moment, stayings: &[Staying]) -> Moment
-    ensures { result ≡ fold (λ last staying. max last staying.at) first stayings.now }
-{
-    let mut last = first;
-    for staying in stayings {
-        last = later(last, staying.at);
-    }
-    last
-}
-
 /// The pairs of a policy's ladder.
 pub fn rungs_of(policy: &Policy) -> &[(u64, u64)]
     ensures value { result.now ≡ rungs_of policy.now }
@@ -132,7 +123,11 @@ pub fn rungs_of(policy: &Policy) -> &[(u64, u64)]
 pub fn last_drawn(first: Moment, forecasts: &[Forecast], stayings: &[Staying]) -> Moment
     ensures { result ≡ last_drawn first forecasts.now stayings.now }
 {
-    last_asked(last_of(first, forecasts), stayings)
+    let mut last = last_of(first, forecasts);
+    for staying in stayings {
+        last = later(last, staying.at);
+    }
+    last
 }
 
 /// How many rows of labels there are.

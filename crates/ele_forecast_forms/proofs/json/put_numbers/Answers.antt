@@ -6,11 +6,11 @@ use Rattle.ele_forecast_forms.proofs.Commas.{commas_are}
 use Rattle.ele_forecast_forms.proofs.json.put_numbers.Goals as goal
 
 pub loop-number-init : goal.loop-number-init
-loop-number-init g c = put_first (commas_are (λ (number : ℕ). decimal number) _ _ _ c.in-Some.ensures.cases) c.put_version_number.ensures
+loop-number-init g c = put_first (commas_are (λ (number : ℕ). decimal number) _ _ _ c.in-Some.ensures.cases) (rw c.first.view_is at c.put_number.ensures)
 
 pub loop-number-preserved : goal.loop-number-preserved
 loop-number-preserved g c =
-    list_more (λ (number : ℕ). 44 ∷ decimal number) c.in-Some.rest.now c.loop-number.number-index c.number-item.result (omega arith) c.number-item.is c.loop-number.invariant (puts_then c.put_byte.ensures c.put_version_number-in-loop-number.ensures)
+    list_more (λ (number : ℕ). 44 ∷ decimal number) c.in-Some.rest.now c.loop-number.number-index c.number-item.result (omega arith) c.number-item.is c.loop-number.invariant (rw c.number.view_is at c.put_with_number.ensures)
 
 pub returns : goal.returns
 returns g c = list_done (λ (number : ℕ). 44 ∷ decimal number) c.in-Some.rest.now c.loop-number.number-index c.loop-number-test.false c.loop-number.invariant

@@ -1,5 +1,16 @@
-use Rattle.ele_output.proofs.Known.{puts_then}
+use Rattle.std.proofs.Common.{[], ◌∷◌, arith}
+use Rattle.ele_forecast_forms.specs.Json.{escaped}
+use Rattle.ele_output.proofs.Known.{put_last}
+use Rattle.ele_forecast_text.proofs.Lines.{byte_more_then, list_past, put_next, put_start}
 use Rattle.ele_forecast_forms.proofs.json_parts.put_string.Goals as goal
 
+pub loop-byte-init : goal.loop-byte-init
+loop-byte-init g c = put_next (put_start c.put.ensures) c.put-2.ensures
+
+pub loop-byte-preserved : goal.loop-byte-preserved
+loop-byte-preserved g c =
+    byte_more_then escaped c.args.text.now c.loop-byte.byte-index _ (34 ∷ []) (omega arith) c.loop-byte.invariant c.put_escaped.ensures
+
 pub returns : goal.returns
-returns g c = puts_then c.put.ensures (puts_then c.put_bytes.ensures (c.put-2.ensures))
+returns g c =
+    put_last (list_past escaped c.args.text.now c.loop-byte.byte-index (34 ∷ []) c.loop-byte-test.false c.loop-byte.invariant) c.put-3.ensures

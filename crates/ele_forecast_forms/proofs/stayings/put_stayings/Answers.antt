@@ -1,7 +1,7 @@
 use Rattle.std.proofs.Common.{ℕ, arith}
 use Rattle.std.specs.List.{flat_map}
 use Rattle.ele_forecast_forms.specs.Compared.{plan_staying}
-use Rattle.ele_forecast_forms.proofs.Words.{each_first, each_more, each_none}
+use Rattle.ele_forecast_text.proofs.Folds.{each_first, each_more, each_none}
 use Rattle.ele_output.proofs.Known.{put_all, put_more, put_none}
 use Rattle.ele_forecast_forms.proofs.stayings.put_stayings.Goals as goal
 

@@ -4,4 +4,6 @@ use Rattle.std.proofs.Common.{sym}
 use Rattle.ele_forecast_text.proofs.details.put_details.Goals as goal
 
 pub returns : goal.returns
-returns g c = puts_as (sym (spaced_both _ _)) (puts_then c.put_label.ensures c.put_size.ensures)
+returns g c =
+    puts_as (sym (spaced_both _ _)) (puts_then (rw (c.name_of-name.ensures, c.as_slice.ensures.value) at c.put_word_if.ensures)
+    (rw (c.as_bytes.ensures.value, c.format.ensures.text, c.size_of-size.ensures, c.as_slice-2.ensures.value) at c.put_word_if-2.ensures))

@@ -4,4 +4,4 @@ use Rattle.std.proofs.Common.{sym}
 use Rattle.ele_forecast_text.proofs.details.put_headings.Goals as goal
 
 pub returns : goal.returns
-returns g c = puts_as (sym (spaced_both _ _)) (puts_then c.put_heading.ensures c.put_heading-2.ensures)
+returns g c = puts_as (sym (spaced_both _ _)) (puts_then c.put_word_if.ensures c.put_word_if-2.ensures)

@@ -5,5 +5,5 @@ use Rattle.ele_forecast_text.proofs.row.put_detailed.Goals as goal
 
 pub returns : goal.returns
 returns g c =
-    puts_as (sym (detailed_parts c.args.policy.now c.args.details.now c.args.forecast.now)) (puts_then c.put_version_number.ensures (
+    puts_as (sym (detailed_parts c.args.policy.now c.args.details.now c.args.forecast.now)) (puts_then (rw c.number.view_is at c.put_number.ensures) (
     puts_then c.put_details.ensures c.put_told.ensures))

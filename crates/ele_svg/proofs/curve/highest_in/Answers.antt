@@ -6,7 +6,7 @@ use Rattle.ele_svg.proofs.curve.highest_in.Goals as goal
 
 pub loop-count-preserved : goal.loop-count-preserved
 loop-count-preserved c =
-    (rw c.larger-most.ensures.value (sym (fold_here max c.loop-count.most c.args.counts.now c.loop-count.count-index _ c.loop-count-test.true) ∙ c.loop-count.invariant.0), omega (arith, c.loop-count.invariant.1, c.larger-most.ensures.grows))
+    (rw c.max-most.ensures (sym (fold_here max c.loop-count.most c.args.counts.now c.loop-count.count-index _ c.loop-count-test.true) ∙ c.loop-count.invariant.0), omega (arith, c.loop-count.invariant.1, c.max-most.ensures))
 
 pub returns-clause-value : goal.returns-clause-value
 returns-clause-value c = sym (fold_end max c.loop-count.most c.args.counts.now c.loop-count.count-index c.loop-count-test.false) ∙ c.loop-count.invariant.0

@@ -1,6 +1,6 @@
 use Rattle.std.proofs.Common.{◌≡◌, ◌<◌, drop}
 use Rattle.std.specs.List.{fold}
-use Rattle.ele_svg.specs.Summary.{highest_at, highest_of}
+use Rattle.ele_svg.specs.Curve.{highest_at, highest_of}
 use Rattle.ele_svg.proofs.curve.highest_of.Given as goal
 
 -- the other points are left

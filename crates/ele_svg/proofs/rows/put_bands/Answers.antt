@@ -1,5 +1,5 @@
 use Rattle.std.proofs.Common.{arith}
-use Rattle.ele_svg.specs.Rows.{band_drawn}
+use Rattle.ele_svg.specs.Frame.{band_drawn}
 use Rattle.ele_output.proofs.Known.{put_more}
 use Rattle.ele_output.proofs.Lists.{here, list_done}
 use Rattle.ele_svg.proofs.rows.put_bands.Goals as goal

@@ -1,7 +1,7 @@
 use Rattle.std.specs.Prelude.{drop}
 use Rattle.std.specs.List.{flat_map}
 use Rattle.ele_output.specs.Prints.{outlet}
-use Rattle.ele_svg.specs.Rows.{band_drawn}
+use Rattle.ele_svg.specs.Frame.{band_drawn}
 use Rattle.ele_output.proofs.Known.{HasPut}
 use Rattle.ele_svg.proofs.rows.put_bands.Given as goal
 

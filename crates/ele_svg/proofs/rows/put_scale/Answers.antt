@@ -1,8 +1,9 @@
 use Rattle.std.proofs.Common.{ℕ, ◌*◌, ◌/◌, arith}
 use Rattle.std.specs.List.{flat_map}
-use Rattle.ele_svg.specs.Rows.{scale_marks}
+use Rattle.ele_svg.specs.Frame.{scale_marks}
 use Rattle.ele_svg_marks.specs.Mark.{mark_text}
-use Rattle.ele_svg_marks.proofs.Known.{each_between, each_more, each_none}
+use Rattle.ele_forecast_text.proofs.Folds.{each_more, each_none}
+use Rattle.ele_svg_marks.proofs.Known.{each_between}
 use Rattle.ele_output.proofs.Known.{put_all, put_more, put_none}
 use Rattle.ele_svg.proofs.rows.put_scale.Goals as goal
 

@@ -1,7 +1,7 @@
 use Rattle.std.proofs.Common.{ℕ, ◌*◌, ◌-◌}
 use Rattle.std.specs.List.{flat_map, range_with_len}
 use Rattle.ele_output.specs.Prints.{outlet}
-use Rattle.ele_svg.specs.Rows.{scale_drawn, scale_marks}
+use Rattle.ele_svg.specs.Frame.{scale_drawn, scale_marks}
 use Rattle.ele_svg_marks.specs.Mark.{mark_text}
 use Rattle.ele_output.proofs.Known.{HasPut}
 use Rattle.ele_svg.proofs.rows.put_scale.Given as goal

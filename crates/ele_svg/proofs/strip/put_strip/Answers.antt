@@ -2,4 +2,5 @@ use Rattle.ele_output.proofs.Known.{puts_then}
 use Rattle.ele_svg.proofs.strip.put_strip.Goals as goal
 
 pub returns : goal.returns
-returns g c = puts_then (rw (c.strip_marks.ensures, c.strip_top-top.ensures.value) at c.put_marks.ensures) (rw c.strip_top-top.ensures.value at c.put_ticks.ensures)
+returns g c =
+    puts_then (rw c.strip_top-top.ensures.value at c.put_marks.ensures) (rw c.strip_top-top.ensures.value at c.put_ticks.ensures)

@@ -1,5 +1,5 @@
 use Rattle.std.proofs.Common.{arith}
-use Rattle.ele_svg.specs.Summary.{last_seen, strip_tick}
+use Rattle.ele_svg.specs.Strips.{last_seen, strip_tick}
 use Rattle.ele_svg_marks.proofs.Walk.{walked_end, walked_more}
 use Rattle.ele_output.proofs.Known.{put_all, put_more}
 use Rattle.ele_svg.proofs.strip.put_ticks.Goals as goal

@@ -1,6 +1,6 @@
 use Rattle.std.specs.Prelude.{drop}
 use Rattle.ele_output.specs.Prints.{outlet}
-use Rattle.ele_svg.specs.Summary.{last_seen, strip_tick}
+use Rattle.ele_svg.specs.Strips.{last_seen, strip_tick}
 use Rattle.ele_svg_marks.specs.Walk.{walked}
 use Rattle.ele_output.proofs.Known.{HasPut}
 use Rattle.ele_svg.proofs.strip.put_ticks.Given as goal

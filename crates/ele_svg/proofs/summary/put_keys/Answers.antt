@@ -1,5 +1,5 @@
 use Rattle.std.proofs.Common.{arith}
-use Rattle.ele_svg.specs.Summary.{key_drawn, place_after}
+use Rattle.ele_svg.specs.Key.{key_drawn, place_after}
 use Rattle.ele_svg_marks.proofs.Walk.{walked_end, walked_more}
 use Rattle.ele_output.proofs.Known.{put_all, put_more}
 use Rattle.ele_svg.proofs.summary.put_keys.Goals as goal

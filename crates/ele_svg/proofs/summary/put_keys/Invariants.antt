@@ -1,7 +1,7 @@
 use Rattle.std.proofs.Common.{◌≡◌}
 use Rattle.std.specs.Prelude.{drop}
 use Rattle.ele_output.specs.Prints.{outlet}
-use Rattle.ele_svg.specs.Summary.{key_drawn, keys_drawn, place_after}
+use Rattle.ele_svg.specs.Key.{key_drawn, keys_drawn, place_after}
 use Rattle.ele_svg_marks.specs.Walk.{walked}
 use Rattle.ele_output.proofs.Known.{HasPut}
 use Rattle.ele_svg.proofs.summary.put_keys.Given as goal

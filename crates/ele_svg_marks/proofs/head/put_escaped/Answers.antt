@@ -1,4 +1,4 @@
-use Rattle.ele_svg_marks.specs.Head.{begun_after, escaped_at}
+use Rattle.ele_svg_marks.specs.Escaped.{begun_after, escaped_at}
 use Rattle.ele_svg_marks.proofs.Walk.{walked_end, walked_here}
 use Rattle.ele_output.proofs.Known.{put_all, put_more}
 use Rattle.ele_svg_marks.proofs.head.put_escaped.Goals as goal

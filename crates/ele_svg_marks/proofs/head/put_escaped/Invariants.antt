@@ -1,6 +1,6 @@
 use Rattle.std.specs.Prelude.{drop}
 use Rattle.ele_output.specs.Prints.{outlet}
-use Rattle.ele_svg_marks.specs.Head.{begun_after, escaped, escaped_at}
+use Rattle.ele_svg_marks.specs.Escaped.{begun_after, escaped, escaped_at}
 use Rattle.ele_svg_marks.specs.Walk.{walked}
 use Rattle.ele_output.proofs.Known.{HasPut}
 use Rattle.ele_svg_marks.proofs.head.put_escaped.Given as goal

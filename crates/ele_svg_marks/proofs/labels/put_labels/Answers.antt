@@ -1,5 +1,6 @@
 use Rattle.std.proofs.Common.{arith}
-use Rattle.ele_svg_marks.specs.Labels.{label_drawn, shelved}
+use Rattle.ele_svg_marks.specs.Labels.{label_drawn}
+use Rattle.ele_svg_marks.specs.Shelves.{shelved}
 use Rattle.ele_svg_marks.proofs.Walk.{walked_end, walked_more}
 use Rattle.ele_output.proofs.Known.{put_all, put_more}
 use Rattle.ele_svg_marks.proofs.labels.put_labels.Goals as goal

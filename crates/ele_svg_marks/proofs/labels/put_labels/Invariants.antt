@@ -1,6 +1,7 @@
 use Rattle.std.specs.Prelude.{drop}
 use Rattle.ele_output.specs.Prints.{outlet}
-use Rattle.ele_svg_marks.specs.Labels.{label_drawn, labels_drawn, shelved}
+use Rattle.ele_svg_marks.specs.Labels.{label_drawn, labels_drawn}
+use Rattle.ele_svg_marks.specs.Shelves.{shelved}
 use Rattle.ele_svg_marks.specs.Walk.{walked}
 use Rattle.ele_output.proofs.Known.{HasPut}
 use Rattle.ele_svg_marks.proofs.labels.put_labels.Given as goal

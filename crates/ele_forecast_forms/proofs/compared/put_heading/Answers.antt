@@ -1,9 +1,0 @@
-use Rattle.ele_output.proofs.Known.{puts_then}
-use Rattle.ele_forecast_forms.proofs.compared.put_heading.Goals as goal
-
-pub returns : goal.returns
-returns g c =
-    puts_then c.put.ensures (
-    puts_then c.put_headings.ensures (
-    puts_then c.put-2.ensures (
-    puts_then c.put_policies.ensures c.put-3.ensures)))

@@ -1,5 +1,0 @@
-use Rattle.ele_output.proofs.Known.{puts_then}
-use Rattle.ele_forecast_forms.proofs.compared.put_policy_column.Goals as goal
-
-pub returns : goal.returns
-returns g c = puts_then c.put.ensures c.put_policy.ensures

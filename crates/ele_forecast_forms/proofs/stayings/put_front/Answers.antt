@@ -1,8 +1,0 @@
-use Rattle.ele_output.proofs.Known.{puts_then}
-use Rattle.ele_forecast_forms.proofs.stayings.put_front.Goals as goal
-
-pub returns : goal.returns
-returns g c =
-    puts_then c.put.ensures (
-    puts_then (rw c.stamp_of.ensures at c.put-2.ensures) (
-    puts_then c.put-3.ensures c.put_policy.ensures))

@@ -1,4 +1,0 @@
-use Rattle.ele_svg.proofs.summary.put_heading.Goals as goal
-
-pub returns : goal.returns
-returns g c = rw (c.as_bytes.ensures.value, c.format.ensures.text) at c.put_parts.ensures

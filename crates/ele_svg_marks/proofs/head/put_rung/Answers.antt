@@ -1,5 +1,0 @@
-use Rattle.ele_output.proofs.Known.{puts_then}
-use Rattle.ele_svg_marks.proofs.head.put_rung.Goals as goal
-
-pub returns : goal.returns
-returns g c = puts_then c.put_length.ensures c.put_length-2.ensures
