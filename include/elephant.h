@@ -37,8 +37,8 @@
  *     freed it. elephant_new may return NULL: test it.
  *   - A pointer with a length points to that many bytes, fewer than 2^63, which stay valid during the call. Other pointers point
  *     to one object of their type, aligned. The memory that a call writes overlaps no other argument.
- *   - One call at a time on a handle. Threads may share it with a lock, a join or the like between two calls. Two handles share
- *     nothing.
+ *   - One call at a time on a handle, also on a const one. Threads may share it with a lock, a join or the like between two calls.
+ *     Two handles share nothing.
  *   - No call from a signal handler, and none in the child of a fork of a process with threads.
  *   - malloc, realloc and free are those of one allocator, which aligns by 16 bytes. The processor is x86-64-v2 or later.
  * Each other mistake returns a code: a closed store, a bad path, a handle or a row that is not there, too small a buffer.
@@ -46,8 +46,11 @@
 #ifndef ELEPHANT_H
 #define ELEPHANT_H
 
-/* The version of this header and its library, as pkg-config says it. */
-#define ELEPHANT_LIBRARY_VERSION "1.0.0"
+/* SPDX-License-Identifier: NONE */
+
+/* The version of this header, as pkg-config says it, and as a number: 1.2.3 is 1002003. */
+#define ELEPHANT_LIBRARY_VERSION "2.1.0"
+#define ELEPHANT_LIBRARY_VERSION_NUMBER 2001000
 
 #include <stddef.h>
 #include <stdint.h>
@@ -117,6 +120,13 @@ enum elephant_code {
 };
 /* End of the codes. */
 
+/* Returns the name and the meaning of a code, as "NoEntry: the path names nothing". The text is never freed. */
+const char *elephant_code_text(int32_t code);
+
+/* Return the version of the library that the program runs with, in the forms of the two macros. The text is never freed. */
+const char *elephant_library_version(void);
+uint32_t elephant_library_version_number(void);
+
 /* No moment or no level: a version that has not ended, a mark without an end, .. */
 #define ELEPHANT_NEVER UINT64_MAX
 
@@ -165,7 +175,7 @@ int32_t elephant_open_largest(elephant *e, uint32_t history);
 void elephant_close(elephant *e);
 
 /* Returns the detail of ELEPHANT_FORGOTTEN and ELEPHANT_FULL. NO_RESULT after any other answer. */
-int32_t elephant_detail(elephant *e, uint64_t *detail);
+int32_t elephant_detail(const elephant *e, uint64_t *detail);
 
 /* ---- Lines of the script language ---- */
 
@@ -183,12 +193,12 @@ int32_t elephant_tell(elephant *e, uint64_t *length);
 
 /* Copies the text that elephant_line or elephant_tell made last, from `offset` on, at most `room` bytes. *copied: how many, 0 at and
  * past its end. You may copy it in pieces, with other calls between: the text stays until the next call of these two. */
-int32_t elephant_answer(elephant *e, uint64_t offset, void *into, size_t room, uint64_t *copied);
+int32_t elephant_answer(const elephant *e, uint64_t offset, void *into, size_t room, uint64_t *copied);
 
 /* ---- The clock ---- */
 
 /* Returns the store's moment. */
-int32_t elephant_now(elephant *e, uint64_t *moment);
+int32_t elephant_now(const elephant *e, uint64_t *moment);
 
 /* Sets the clock to the moment. CLOCK_BACK; BAD_MOMENT. */
 int32_t elephant_clock(elephant *e, uint64_t moment);
@@ -263,17 +273,17 @@ int32_t elephant_read(elephant *e, const void *path, size_t len, uint32_t tag, u
 int32_t elephant_read_handle(elephant *e, uint64_t handle, uint64_t *length);
 
 /* Copies the kept bytes from `offset` on, at most `room` bytes. *copied: how many, 0 at and past their end. NO_RESULT. */
-int32_t elephant_take(elephant *e, uint64_t offset, void *into, size_t room, uint64_t *copied);
+int32_t elephant_take(const elephant *e, uint64_t offset, void *into, size_t room, uint64_t *copied);
 
 /* Copies the bytes of that version from `offset` on straight to `into`, at most `room` bytes. *copied: how many, 0 at and past the
  * end. *length: how many the version has. It only looks: the kept result stays, and a history gets no entry. It returns the codes of
  * elephant_read, but elephant_tell and elephant_detail still mean the call before. After FORGOTTEN call elephant_stat, which returns
  * the same code, for the detail. A read of 1 MiB takes about half as long as with elephant_read and elephant_take. */
-int32_t elephant_read_into(elephant *e, const void *path, size_t len, uint32_t tag, uint64_t number, uint64_t offset, void *into,
-                           size_t room, uint64_t *length, uint64_t *copied);
+int32_t elephant_read_into(const elephant *e, const void *path, size_t len, uint32_t tag, uint64_t number, uint64_t offset,
+                           void *into, size_t room, uint64_t *length, uint64_t *copied);
 
 /* Copies the bytes of the handle's version or draft in the same way. NO_HANDLE. It takes no memory. */
-int32_t elephant_read_handle_into(elephant *e, uint64_t handle, uint64_t offset, void *into, size_t room, uint64_t *length,
+int32_t elephant_read_handle_into(const elephant *e, uint64_t handle, uint64_t offset, void *into, size_t room, uint64_t *length,
                                   uint64_t *copied);
 
 /* A policy in numbers. */
@@ -303,7 +313,7 @@ int32_t elephant_stat(elephant *e, const void *path, size_t len, uint32_t tag, u
 
 /* Returns rung `index` of the ladder of the last elephant_stat: from that age on one version stays in each span of that width, both
  * in seconds. NO_RESULT, NO_ROW. */
-int32_t elephant_rung(elephant *e, uint64_t index, uint64_t *age, uint64_t *width);
+int32_t elephant_rung(const elephant *e, uint64_t index, uint64_t *age, uint64_t *width);
 
 /* ---- Lists ----
  * Each of these calls keeps a list. *rows: how many rows it has. elephant_row_.. copies a row by its index, from 0 on: NO_RESULT,
@@ -319,7 +329,7 @@ typedef struct elephant_version_row {
     uint64_t length;
 } elephant_version_row;
 
-int32_t elephant_row_version(elephant *e, uint64_t index, elephant_version_row *row);
+int32_t elephant_row_version(const elephant *e, uint64_t index, elephant_version_row *row);
 
 /* Lists the names in a directory, in order. Tags NOW and AT. NO_ENTRY, NOT_DIRECTORY, FUTURE; BAD_PATH, BAD_NAME, BAD_MOMENT,
  * SYNTAX. */
@@ -335,11 +345,11 @@ typedef struct elephant_name_row {
     uint64_t name_length;    /* see elephant_row_bytes */
 } elephant_name_row;
 
-int32_t elephant_row_name(elephant *e, uint64_t index, elephant_name_row *row);
+int32_t elephant_row_name(const elephant *e, uint64_t index, elephant_name_row *row);
 
 /* Copies the name of a row of elephant_list, elephant_restorable or elephant_groups, without a zero byte at the end. *length: how
  * many bytes. A buffer of 64 bytes is always enough. NO_ROOM. */
-int32_t elephant_row_bytes(elephant *e, uint64_t index, void *into, size_t room, uint64_t *length);
+int32_t elephant_row_bytes(const elephant *e, uint64_t index, void *into, size_t room, uint64_t *length);
 
 /* Lists the versions that are due now, in order of removal. */
 int32_t elephant_due(elephant *e, uint64_t *rows);
@@ -352,7 +362,7 @@ typedef struct elephant_key {
     uint64_t file, number;   /* file 0 (of elephant_clean): no version */
 } elephant_key;
 
-int32_t elephant_row_key(elephant *e, uint64_t index, elephant_key *key);
+int32_t elephant_row_key(const elephant *e, uint64_t index, elephant_key *key);
 
 /* Lists what the files of each kind of policy use: four rows, in the order of enum elephant_policy_kind. */
 int32_t elephant_usage(elephant *e, uint64_t *rows);
@@ -363,7 +373,7 @@ typedef struct elephant_usage_row {
     uint64_t blocks;         /* distinct blocks of at most 512 bytes, of versions and drafts */
 } elephant_usage_row;
 
-int32_t elephant_row_usage(elephant *e, uint64_t index, elephant_usage_row *row);
+int32_t elephant_row_usage(const elephant *e, uint64_t index, elephant_usage_row *row);
 
 /* ---- Policies ----
  * NO_ENTRY, NOT_DIRECTORY; BAD_PATH, BAD_NAME, BAD_LADDER, SYNTAX. */
@@ -405,11 +415,11 @@ typedef struct elephant_mark_row {
     uint64_t until;          /* or ELEPHANT_NEVER */
 } elephant_mark_row;
 
-int32_t elephant_row_group(elephant *e, uint64_t index, elephant_group_row *row);
+int32_t elephant_row_group(const elephant *e, uint64_t index, elephant_group_row *row);
 
 /* Return the number of a member's file, and a mark, of the group in that row. */
-int32_t elephant_row_member(elephant *e, uint64_t index, uint64_t member, uint64_t *file);
-int32_t elephant_row_mark(elephant *e, uint64_t index, uint64_t mark, elephant_mark_row *row);
+int32_t elephant_row_member(const elephant *e, uint64_t index, uint64_t member, uint64_t *file);
+int32_t elephant_row_mark(const elephant *e, uint64_t index, uint64_t mark, elephant_mark_row *row);
 
 /* ---- Forgetting ---- */
 
@@ -442,7 +452,7 @@ typedef struct elephant_why_row {
 int32_t elephant_why(elephant *e, const void *path, size_t len, uint32_t tag, uint64_t number, elephant_why_row *row);
 
 /* Copies the name of the group of the last elephant_why, if its fate was MARKED. *length: how many bytes. NO_RESULT, NO_ROOM. */
-int32_t elephant_why_group(elephant *e, void *into, size_t room, uint64_t *length);
+int32_t elephant_why_group(const elephant *e, void *into, size_t room, uint64_t *length);
 
 /* Removes the first due version, and returns its key; removed->file is 0 if none was due. */
 int32_t elephant_clean(elephant *e, elephant_key *removed);
@@ -455,7 +465,7 @@ int32_t elephant_pass(elephant *e, uint64_t budget, uint64_t *removed, uint64_t 
  * NO_HISTORY without one. */
 
 /* Returns how many events are folded, and how many entries follow them. The line `history` also prints the entries. */
-int32_t elephant_history(elephant *e, uint64_t *folded, uint64_t *entries);
+int32_t elephant_history(const elephant *e, uint64_t *folded, uint64_t *entries);
 
 /* Folds all entries into the base, and frees them. *folded: how many they were. */
 int32_t elephant_trim(elephant *e, uint64_t *folded);

@@ -2,8 +2,10 @@
 
 import argparse
 import ctypes
+import datetime
 import functools
 import hashlib
+import json
 import os
 import re
 import shutil
@@ -19,8 +21,8 @@ from typing import Any, AnyStr, NamedTuple
 ROOT = Path(__file__).resolve().parents[2]
 OUT = ROOT / "out"
 NAME = "elephant"
-# The proved program.
-PROGRAM = OUT / NAME
+# The proved program, and what the gates counted that proved it.
+PROGRAM, COUNTED = OUT / NAME, OUT / "counted.json"
 PARTS = ("src", "specs", "proofs")
 # How a command runs whose whole output is read as one text.
 PIPES: dict[str, Any] = {
@@ -30,6 +32,7 @@ PIPES: dict[str, Any] = {
 CHECK_MEMORY = 3500
 # The status if this machine lacks something (as EX_UNAVAILABLE of sysexits.h). The program's own are 0 to 5.
 UNAVAILABLE = 69
+DAY = re.compile(r"\d{4}-\d\d-\d\d")
 # The crates of this repository that each of them uses.
 Uses = dict[str, set[str]]
 # A sum for each source, by its path from the top of the repository.
@@ -235,6 +238,11 @@ def commit() -> str:
     return next((it.split()[0] for it in packed.splitlines() if it.endswith(f" {name}")), "-")
 
 
+def version() -> str:
+    """Returns the version of the program, the library and their clients."""
+    return first_line(ROOT / "VERSION")
+
+
 def first_line(file: Path) -> str:
     """Returns what a file has before its first line feed."""
     return file.read_text(encoding="utf-8").partition("\n")[0]
@@ -290,45 +298,54 @@ def python_with(module: str) -> str | None:
 
 
 class Stamp(NamedTuple):
-    """The commit, the kit and the sums of the sources that a product was proved with."""
+    """The commit, the kit, the day and the sums of the sources that a product was proved with."""
 
     commit: str
     kit: str
+    day: str
     sums: Sums
+
+    def provenance(self) -> str:
+        """Returns the lines that an installation keeps of it. `elephant` at the top prints the same of a stamp."""
+        return f"commit {self.commit}\nproved on {self.day} by {self.kit}\n"
 
 
 @dataclass(frozen=True)
 class Product:
-    """What is proved and built of a crate: files in out/, each with its mode, and a stamp of their sources: the commit, the kit, and a
-    sum and a path for each source. The stamp is written last, so without it the product doesn't count."""
+    """What is proved and built of a crate: files in out/, each with its mode, and a stamp of their sources: the commit, the kit, the day,
+    and a sum and a path for each source. The stamp is written last, so without it the product doesn't count."""
 
     what: str
     crate: str
     stamp: Path
     files: dict[Path, int]
     command: str
+    # Sources of the product beside its crates.
+    beside: tuple[Path, ...] = ()
 
     def sums(self) -> Sums:
-        return source_sums(self.crate)
+        return source_sums(self.crate) | {str(it.relative_to(ROOT)): sum_of(it.read_bytes()) for it in self.beside}
 
     def install(self, built: Mapping[Path, bytes], sums: Sums) -> None:
         """Writes these bytes, built from sources with these sums, as the files of out/."""
         self.stamp.unlink(missing_ok=True)
         for path, mode in self.files.items():
             write_whole(path, built[path], mode)
-        self.write_stamp(sums)
+        self.write_stamp(sums, today())
 
-    def write_stamp(self, sums: Sums) -> None:
-        lines = [commit(), kit(), *(f"{it} {path}" for path, it in sums.items())]
+    def write_stamp(self, sums: Sums, day: str) -> None:
+        lines = [commit(), kit(), day, *(f"{it} {path}" for path, it in sums.items())]
         write_whole(self.stamp, "".join(f"{line}\n" for line in lines).encode())
 
     def read_stamp(self) -> Stamp | None:
-        """Returns the stamp, or None if the product isn't there."""
+        """Returns the stamp, or None if the product isn't there, or its stamp has another form."""
         is_there = (os.access(it, os.X_OK if mode & 0o100 else os.R_OK) for it, mode in self.files.items())
         if not (self.stamp.is_file() and all(is_there)):
             return None
-        first, made_by, *rows = self.stamp.read_text(encoding="utf-8").splitlines()
-        return Stamp(first, made_by, {path: it for it, path in (row.split(" ", 1) for row in rows)})
+        first, made_by, day, *rows = [*self.stamp.read_text(encoding="utf-8").splitlines(), "", "", ""]
+        if not DAY.fullmatch(day):
+            return None
+        return Stamp(first, made_by, day, {path: it for it, path in (row.split(" ", 1) for row in rows if row)})
 
     def state(self) -> tuple[bool, str]:
         """Returns whether it was proved from the present sources by the present kit, and a line that says so."""
@@ -345,11 +362,26 @@ class Product:
             return False, f"the proved {self.what} is of other sources: {paths} changed since; '{self.command}' proves the present ones"
         if found.commit != commit():
             # The proof doesn't read the files that have changed: the next start needn't look again.
-            self.write_stamp(found.sums)
+            self.write_stamp(found.sums, found.day)
         return True, f"the proved {self.what} is that of the present sources"
 
 
 BUILT_PROGRAM = Product("program", NAME, OUT / "stamp", {PROGRAM: 0o755}, "./elephant prove")
+
+
+def today() -> str:
+    return datetime.datetime.now(datetime.timezone.utc).date().isoformat()
+
+
+def read_counted() -> dict[str, Any]:
+    """Returns what each gate counted when it last ran here, by its command."""
+    return dict(json.loads(COUNTED.read_text(encoding="utf-8"))) if COUNTED.is_file() else {}
+
+
+def record_counted(command: str, **counts: int) -> None:
+    """Keeps what a gate counted, with its commit, its toolchain and the day."""
+    facts: dict[str, object] = {"commit": commit(), "toolchain": kit(), "day": today(), **counts}
+    write_whole(COUNTED, (json.dumps({**read_counted(), command: facts}, indent=1) + "\n").encode())
 
 
 def changed_since(sums: Sums, built: Sums) -> list[str]:

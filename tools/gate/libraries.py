@@ -1,8 +1,9 @@
 """The C library: how its two files are made from the crate `ele_c`, and where `./elephant install` puts them.
 
 The kit's `rattle build` writes one position-independent object file. It calls the C library, and three functions of the kit that
-allocate memory. This module links these into the same object, makes every name but `elephant_*` local, and builds libelephant.a and
-libelephant.so from it. It uses the kit's own LLVM tools, so building needs no C compiler.
+allocate memory. clients/c/src/elephant.c, which tools/pages/surface prints, has the calls of the header over the exports of the crate.
+This module links all of these into one object, makes every name but `elephant_*` local, and builds libelephant.a and libelephant.so
+from it. It uses the kit's own LLVM tools, so building needs no C compiler of the machine.
 """
 
 import os
@@ -18,12 +19,21 @@ from gate.building import OUT, ROOT, Unavailable
 
 CRATE = "ele_c"
 HEADER = ROOT / "include" / "elephant.h"
+# The calls of the header over the exports of the crate.
+CALLS = ROOT / "clients" / "c" / "src" / "elephant.c"
+# The kit's clang has no headers of C. These have what elephant.h takes of them.
+HEADERS = {
+    "stddef.h": "typedef __SIZE_TYPE__ size_t;\n",
+    "stdint.h": "typedef __INT32_TYPE__ int32_t;\ntypedef __UINT32_TYPE__ uint32_t;\ntypedef __UINT64_TYPE__ uint64_t;\n"
+    "#define UINT64_MAX __UINT64_MAX__\n",
+}
+COMPILED = ["--target=x86_64-unknown-linux-gnu", "-std=c11", "-O2", "-fPIC", "-Wall", "-Wextra", "-Wconversion", "-Werror", "-nostdinc"]
 STATIC, SHARED = OUT / "libelephant.a", OUT / "libelephant.so"
 # The number goes up when a program that was linked with an earlier library can't run with this one.
 SONAME = "libelephant.so.1"
 EXPORTED = "elephant_*"
 CONFIG = """prefix={prefix}
-libdir=${{prefix}}/lib
+libdir=${{prefix}}/{libdir}
 includedir=${{prefix}}/include
 
 Name: elephant
@@ -32,7 +42,9 @@ Version: {version}
 Libs: -L${{libdir}} -lelephant
 Cflags: -I${{includedir}}
 """
-BUILT_LIBRARY = building.Product("library", CRATE, OUT / "library.stamp", {STATIC: 0o644, SHARED: 0o755}, "./elephant library")
+BUILT_LIBRARY = building.Product(
+    "library", CRATE, OUT / "library.stamp", {STATIC: 0o644, SHARED: 0o755}, "./elephant library", (HEADER, CALLS),
+)
 
 
 class LaidFile(NamedTuple):
@@ -99,12 +111,22 @@ class Progress:
             self._say(f"{CRATE}: {found[1]} of {found[2]} functions proved")
 
 
+def compile_calls(folder: Path) -> Path:
+    """Compiles the calls of the header in a folder, and returns the object."""
+    for name, text in HEADERS.items():
+        (folder / name).write_text(text, encoding="ascii")
+    made = folder / "calls.o"
+    run_kit("clang", *COMPILED, f"-I{HEADER.parent}", "-isystem", folder, "-c", CALLS, "-o", made)
+    return made
+
+
 def pack(archive: Path) -> dict[Path, bytes]:
-    """Returns the bytes of the static and the shared library, made from the crate's archive."""
+    """Returns the bytes of the static and the shared library, made from the crate's archive and the calls of the header."""
     libc = [building.kit_file(f"toolchain/lib/{it}") for it in ("libc.so.6", "ld-linux-x86-64.so.2")]
     with tempfile.TemporaryDirectory() as folder:
         whole, local, static, shared = (Path(folder, it) for it in ("whole.o", "elephant.o", STATIC.name, SHARED.name))
-        run_kit("ld.lld", "-r", "-o", whole, "--whole-archive", archive, "--no-whole-archive", building.kit_file("c/liblibc_c.a"))
+        objects = [compile_calls(Path(folder)), building.kit_file("c/liblibc_c.a")]
+        run_kit("ld.lld", "-r", "-o", whole, "--whole-archive", archive, "--no-whole-archive", *objects)
         run_kit("llvm-objcopy", "--wildcard", f"--keep-global-symbol={EXPORTED}", whole, local)
         run_kit("llvm-ar", "rcsD", static, local)
         secured = ["-z", "defs", "-z", "relro", "-z", "now", "--build-id", "--gc-sections"]
@@ -118,14 +140,15 @@ def build_and_install(sums: building.Sums) -> None:
     BUILT_LIBRARY.install(pack(archive), sums)
 
 
-def installed(prefix: Path, folder: Path = OUT) -> dict[str, LaidFile | LaidLink]:
+def installed(prefix: Path, folder: Path = OUT, libdir: str = "lib") -> dict[str, LaidFile | LaidLink]:
     """Returns the installed files and links of the libraries, by their paths below the prefix."""
+    config = CONFIG.format(prefix=prefix, libdir=libdir, version=version())
     return {
         "include/elephant.h": LaidFile(0o644, HEADER.read_bytes()),
-        f"lib/{STATIC.name}": LaidFile(0o644, (folder / STATIC.name).read_bytes()),
-        f"lib/{SONAME}": LaidFile(0o755, (folder / SHARED.name).read_bytes()),
-        f"lib/{SHARED.name}": LaidLink(SONAME),
-        "lib/pkgconfig/elephant.pc": LaidFile(0o644, CONFIG.format(prefix=prefix, version=version()).encode()),
+        f"{libdir}/{STATIC.name}": LaidFile(0o644, (folder / STATIC.name).read_bytes()),
+        f"{libdir}/{SONAME}": LaidFile(0o644, (folder / SHARED.name).read_bytes()),
+        f"{libdir}/{SHARED.name}": LaidLink(SONAME),
+        f"{libdir}/pkgconfig/elephant.pc": LaidFile(0o644, config.encode()),
     }
 
 

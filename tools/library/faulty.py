@@ -41,7 +41,7 @@ int32_t {name}({parameters}) {{
 
 def build(header: str, library: Path, folder: Path) -> None:
     """Makes libelephant.a in the folder from that of another folder. `header` is the text of elephant.h without comments."""
-    calls = re.findall(r"int32_t (elephant_\w+)\(([^)]*)\);", header)
+    calls = re.findall(r"\bint32_t (elephant_\w+)\(([^)]*)\);", header)
     parts = [HEAD]
     for name, parameters in calls:
         words = ", ".join(re.findall(r"(\w+)(?:,|$)", parameters))

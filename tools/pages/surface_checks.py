@@ -4,15 +4,15 @@ from collections.abc import Iterator
 from typing import NamedTuple
 
 from gate.building import ROOT
-from pages import surface_docs, surface_header, surface_numbers, surface_python, surface_rust
+from pages import surface_calls, surface_docs, surface_header, surface_numbers, surface_python, surface_rust, surface_version
 from pages.surface_facts import EXPORTS, SOURCES, facts_of
 from pages.surface_header import HEADER
 from pages.surface_regions import Tree
 
-PARTS = (surface_python, surface_rust, surface_docs)
+PARTS = (surface_calls, surface_python, surface_rust, surface_docs)
 PRINTED = [
-    HEADER, *surface_python.PRINTED, *surface_rust.PRINTED, surface_docs.SCRIPT, surface_docs.ERRORS, surface_docs.DRIVE,
-    surface_docs.LIBRARY, *surface_docs.OF_EVENTS,
+    HEADER, surface_calls.SOURCE, *surface_python.PRINTED, *surface_rust.PRINTED, surface_docs.SCRIPT, surface_docs.ERRORS,
+    surface_docs.DRIVE, surface_docs.LIBRARY, *surface_docs.OF_EVENTS, *surface_version.PRINTED,
 ]
 
 
@@ -31,23 +31,26 @@ class Outcome(NamedTuple):
 def read_tree() -> dict[str, str]:
     """Returns the files of this repository that have a part in the surface."""
     exports = sorted(str(it.relative_to(ROOT)) for it in (ROOT / EXPORTS).glob("*.rt"))
-    return {path: (ROOT / path).read_text(encoding="utf-8") for path in [*SOURCES, *exports, *PRINTED, *surface_numbers.COMPARED]}
+    others = [*surface_version.SOURCES, surface_version.CHANGES, *surface_numbers.COMPARED]
+    return {path: (ROOT / path).read_text(encoding="utf-8") for path in [*SOURCES, *exports, *PRINTED, *others]}
 
 
 def outcome_of(tree: Tree) -> Outcome:
     """Prints a tree. The clients are printed from the header as it is printed."""
     facts = facts_of(tree)
-    header = {HEADER: surface_header.made(tree, facts)}
-    with_header = {**tree, **header}
-    printed = {**header}
+    printed = surface_version.made(tree)
+    printed[HEADER] = surface_header.made({**tree, **printed}, facts)
+    with_header = {**tree, **printed}
     for part in PARTS:
         printed.update(part.made(with_header, facts))
     whole = {**tree, **printed}
-    complaints = [it for part in (surface_header, surface_python, surface_docs, surface_numbers) for it in part.complaints(whole, facts)]
+    compared = (surface_header, surface_calls, surface_python, surface_docs, surface_numbers)
+    complaints = [it for part in compared for it in part.complaints(whole, facts)]
+    complaints += surface_version.complaints(whole)
     columns = sum(len(it) for it in facts.rows.values())
     counted = (
         f"{len(facts.commands)} commands, {len(facts.codes)} numbers of errors, {len(facts.limits)} limits, {columns} columns, "
-        f"{len(facts.exports)} calls"
+        f"{len(surface_header.declared(whole[HEADER]).calls)} calls"
     )
     return Outcome(printed, complaints, counted)
 

@@ -18,8 +18,10 @@ ERRORS, HELP_PAGES, HELP_SCRIPT = (f"crates/ele_help/src/{it}.rt" for it in ("er
 PARAGRAPHS = "crates/ele_help/src/paragraphs.rt"
 LINE_FAULT, SHELL_FAULT = "crates/ele_printer/src/fault.rt", "crates/ele_run_options/src/fault.rt"
 STORM_FAULT = "crates/ele_storm_plan/src/fault.rt"
-CODES, FIELDS, TAGS = (f"crates/ele_c_values/src/{it}.rt" for it in ("codes", "fields", "asks"))
-FIELD_RULES = "crates/ele_c_values/specs/Fields.antt"
+CODES, TAGS, CALLS, KINDS, OF_LIMITS = (f"crates/ele_c_values/src/{it}.rt" for it in ("codes", "asks", "call", "kind", "limits"))
+# Where answers become numbers: a comment has the columns of each row.
+KEPT, NAMES, GROUPS, STATS, FATES = (f"crates/ele_c_values/src/{it}.rt" for it in ("kept", "names", "groups", "stats", "fates"))
+NUMBER_RULES = "crates/ele_c_values/specs/Numbers.antt"
 # What has a number: its source, and the type that has it. Another type may have the numbers of memory and of a full history too.
 NUMBERED = [
     ("stop", REFUSAL, "Stop"), ("refusal", REFUSAL, "Refusal"), ("line", LINE_FAULT, "LineFault"), ("run", SHELL_FAULT, "ShellFault"),
@@ -28,7 +30,7 @@ NUMBERED = [
 # Numbers that limits of no store have: where each stands, and its name there.
 CONSTANTS = {
     "most events": (LIMITS, r"(?m)^        events: ([\d_]+),"),
-    "events": ("crates/ele_invocation/src/run.rt", r'\.default_value\("(\d+)"\)'),
+    "events": ("crates/ele_invocation/src/run.rt", r'"events", EVENTS, "(\d+)"'),
     "lines": ("crates/ele_runs/src/script.rt", r"const MOST_LINES: u64 = ([\d_]+);"),
     "bytes": ("crates/ele_runs/src/script.rt", r"const MOST_BYTES: u64 = ([\d_]+);"),
     "line": ("crates/ele_script/src/reading.rt", r"const LONGEST_LINE: usize = ([\d_]+);"),
@@ -39,12 +41,14 @@ CONSTANTS = {
 }
 SOURCES = [
     COMMAND, PARTS, STEP, CHANGE, ASKS, REFUSAL, LIMITS, ERRORS, HELP_PAGES, HELP_SCRIPT, LINE_FAULT, SHELL_FAULT, STORM_FAULT, CODES,
-    FIELDS, TAGS, FIELD_RULES, *sorted({path for path, _ in CONSTANTS.values()} - {LIMITS}),
+    TAGS, CALLS, KINDS, OF_LIMITS, KEPT, NAMES, GROUPS, STATS, FATES, NUMBER_RULES,
+    *sorted({path for path, _ in CONSTANTS.values()} - {LIMITS}),
 ]
 EXPORTS = "crates/ele_c/src"
 TYPES = {
     "&mut Elephant": "elephant *", "*mut Elephant": "elephant *", "&mut *mut Elephant": "elephant **", "u64": "uint64_t", "u32": "uint32_t",
-    "&mut u64": "uint64_t *", "&[u8]": "const void *", "&mut [u8]": "void *",
+    "&mut u64": "uint64_t *", "&[u8]": "const void *", "&mut [u8]": "void *", "&mut Numbers": "inner_row *",
+    "&LimitFields": "const elephant_limits *",
 }
 
 
@@ -113,13 +117,15 @@ class Call(NamedTuple):
 
 
 class Facts(NamedTuple):
-    """All that the sources have. A row has its columns by its name in C."""
+    """All that the sources have. A row has its columns by its name in C. `calls` and `kinds` are in the order of their numbers."""
 
     commands: list[Command]
     codes: list[Code]
     limits: list[Limit]
     rows: dict[str, list[str]]
     exports: dict[str, Call]
+    calls: list[str]
+    kinds: list[str]
     enums: dict[str, int]
     constants: dict[str, int]
     events: int
@@ -278,45 +284,58 @@ def limits_of(tree: Tree) -> list[Limit]:
     return [Limit(name, words[name], int(digits), most[words[name]], phrases.get(words[name], "")) for name, digits in numbers]
 
 
-def rows_of(tree: Tree) -> dict[str, tuple[str, list[str]]]:
-    """Returns each row by its name in Rattle: its name in C, and its columns."""
-    found = re.findall(r"^/// `(\w+)`\.\n(?:#.*\n)*pub struct (\w+) \{\n((?: .*\n)*)\}", tree[FIELDS], re.M)
-    return {name: (in_c, re.findall(r"pub (\w+): u64,", body)) for in_c, name, body in found}
+def rows_of(tree: Tree) -> dict[str, list[str]]:
+    """Returns the columns of each row, by its name in C."""
+    of_limits = match_in(r"(?m)^pub struct LimitFields \{\n((?: .*\n)*)\}", tree[OF_LIMITS])[1]
+    found = {"elephant_limits": re.findall(r"pub (\w+): u64,", of_limits)}
+    for path in (STATS, KEPT, NAMES, GROUPS, FATES):
+        for name, columns in re.findall(r"^// `(elephant_\w+)`: ((?:.|\n//)*?)\.\n", tree[path], re.M):
+            found[name] = re.findall(r"\w+", columns)
+    return found
+
+
+def numbered(text: str, name: str, kind: str) -> list[str]:
+    """Returns the variants of a type in the order of their numbers, which is that of the type. Tables of these names have them."""
+    tables = "".join(re.findall(rf"(?s)static (?:{name}): \[{kind}; \d+\] = \[(.*?)\];", text))
+    listed = re.findall(rf"{kind}::(\w+),", tables)
+    if listed != re.findall(r"^    (\w+),$", block(text, f"pub enum {kind} "), re.M):
+        raise LookupError(f"{name} hasn't the variants of {kind} in their order")
+    return listed
 
 
 def enums_of(tree: Tree) -> dict[str, int]:
     """Returns the numbers of tags, kinds of policies, fates and causes, by their names in C."""
-    rules, found = tree[FIELD_RULES], {}
+    rules, found = tree[NUMBER_RULES], {}
     for digits, name in re.findall(r"^        (\d) => (?:Ok\(|moment\(number\)\.map\()Tag::(\w+)", tree[TAGS], re.M):
         found[{"Number": "VERSION"}.get(name, name.upper())] = int(digits)
     for name, digits in re.findall(r"^kind_number \(?policy\.(\w+).* = (\d+)$", rules, re.M):
         found[f"KEEP_{name.upper()}"] = int(digits)
-    for kind, form, before in (("fate", "fate_fields", "IS_"), ("cause", "due_fields since", "")):
+    for kind, form, before, column in (
+        ("fate", "fate_numbers", "IS_", r"(?:single|triple|first =)"), ("cause", "due_numbers since", "", "fifth ="),
+    ):
         for name, body in re.findall(rf"^{form} \(?{kind}\.(\w+)(.*)$", rules, re.M):
-            digits = re.findall(rf"\b{kind} = (\d+)", body)
+            digits = re.findall(rf"\b{column} (\d+)", body)
             names = {"AtOnce": "AT_ONCE", "Age": "BY_AGE"}
             found[before + names.get(name, name.upper())] = int(digits[0]) if digits else 0
     # Its cause is told beside it.
-    found["IS_DUE"] = int(match_in(r"(?m)^due_fields .*\bfate = (\d+)", rules)[1])
+    found["IS_DUE"] = int(match_in(r"(?m)^due_numbers .*\bfirst = (\d+)", rules)[1])
     return found
 
 
 def exports_of(tree: Tree) -> dict[str, Call]:
-    """Returns each exported call, in the words of C. An allocator is no parameter."""
-    rows, found = rows_of(tree), {}
+    """Returns each export, in the words of C. An allocator is no parameter."""
+    found = {}
     for path in sorted(it for it in tree if it.startswith(EXPORTS)):
-        for name, listed, result in re.findall(r'pub (?:unsafe )?extern "C" fn (elephant_\w+)\(([^)]*)\)( -> i32)?', tree[path]):
-            found[name] = Call("int32_t" if result else "void", list(parameters_of(listed, rows)))
+        for name, listed, result in re.findall(r'pub (?:unsafe )?extern "C" fn (\w+)\(([^)]*)\)( -> i32)?', tree[path]):
+            found[name] = Call("int32_t" if result else "void", list(parameters_of(listed)))
     return found
 
 
-def parameters_of(listed: str, rows: dict[str, tuple[str, list[str]]]) -> Iterator[Parameter]:
+def parameters_of(listed: str) -> Iterator[Parameter]:
     for name, _, kind in (it.strip().partition(": ") for it in listed.split(",") if it.strip()):
         if kind == "Global":
             continue
-        of_row = re.fullmatch(r"&(mut )?(\w+Fields)", kind)
-        in_c = f"{'' if of_row[1] else 'const '}{rows[of_row[2]][0]} *" if of_row else TYPES[kind]
-        yield Parameter(in_c, "e" if name == "elephant" else name)
+        yield Parameter(TYPES[kind], "e" if name == "elephant" else name)
         if "[u8]" in kind:
             yield Parameter("size_t", "")
 
@@ -327,7 +346,8 @@ def facts_of(tree: Tree) -> Facts:
     detail = tree[CODES].partition("fn detail_in(")[2].partition("\n}")[0]
     letters = re.findall(r'WordKind::(\w+)( if after_path)? => "(\S+)"', tree[HELP_SCRIPT])
     return Facts(
-        commands, codes, limits, dict(rows_of(tree).values()), exports_of(tree), enums_of(tree),
+        commands, codes, limits, rows_of(tree), exports_of(tree), numbered(tree[CALLS], "EARLY|MIDDLE|LATE", "Call"),
+        numbered(tree[KINDS], "KINDS", "Kind"), enums_of(tree),
         constants={name: number(match_in(form, tree[path])[1]) for name, (path, form) in CONSTANTS.items()},
         events=len(re.findall(r"^parts_of ", tree[PARTS], re.M)),
         detailed=re.findall(r"Refusal::(\w+)\(\w+\) => Some", detail),

@@ -42,8 +42,12 @@ def declared(text: str) -> Declared:
         name: re.findall(r"(\w+) ?[,;]", body.replace("uint64_t", " "))
         for body, name in re.findall(r"typedef struct elephant_\w+ \{ ([^}]*)\} (elephant_\w+);", bare)
     }
-    found = re.findall(r"\b(int32_t|void) (elephant_\w+)\(([^)]*)\);", bare)
-    return Declared(enums, rows, {name: Call(result, [parameter_in(it) for it in listed.split(",")]) for result, name, listed in found})
+    found = re.findall(r"\b(int32_t|uint32_t|void|const char \*) ?(elephant_\w+)\(([^)]*)\);", bare)
+    return Declared(enums, rows, {name: Call(result, list(parameters_in(listed))) for result, name, listed in found})
+
+
+def parameters_in(listed: str) -> Iterator[Parameter]:
+    return (parameter_in(it) for it in listed.split(",") if listed != "void")
 
 
 def parameter_in(text: str) -> Parameter:
@@ -125,7 +129,10 @@ def complaints(tree: Tree, facts: Facts) -> Iterator[str]:
     numbers = {name: number for kind, names in found.enums.items() if kind not in ("code", "limit") for name, number in names.items()}
     yield from differing("the number of ELEPHANT_", numbers, facts.enums)
     yield from differing("the columns of ", found.rows, facts.rows)
-    yield from differing("", {name: Call(it.result, list(unnamed(it.parameters))) for name, it in found.calls.items()}, facts.exports)
+    # The calls that aren't exports are printed.
+    exports = {name: it for name, it in facts.exports.items() if name.startswith("elephant_")}
+    calls = {name: Call(it.result, list(unnamed(it.parameters))) for name, it in found.calls.items() if name in exports}
+    yield from differing("", calls, exports)
     if re.findall(r"#define ELEPHANT_NEVER (.*)", tree[HEADER]) != ["UINT64_MAX"]:
         yield f"{HEADER}: ELEPHANT_NEVER isn't UINT64_MAX"
     struct = tree[HEADER].partition("typedef struct elephant_limits {")[2].partition("}")[0]

@@ -40,12 +40,17 @@ def parts_of(call: Call) -> str:
     return " ".join(it for it in found if it != "size_t")
 
 
+def has_handle(call: Call) -> bool:
+    """Whether a call returns a code and takes a handle. The others are by hand."""
+    return call.result == "int32_t"
+
+
 def library(tree: Tree, facts: Facts, of_c: Declared) -> str:
     tags = of_c.enums["tag"]
     numbers = f"{', '.join(tags)} = {', '.join(map(str, tags.values()))}\n"
     numbers += "".join(f"{facts.code(it).in_c()} = {facts.code(it).number}\n" for it in words.NAMED_IN_PYTHON)
     rows = "".join(f'{row_name(name)} = _struct("{row_name(name)}", "{" ".join(columns)}")\n' for name, columns in of_c.rows.items())
-    listed = [(name.removeprefix("elephant_"), parts_of(call)) for name, call in of_c.calls.items() if call.result != "void"]
+    listed = [(name.removeprefix("elephant_"), parts_of(call)) for name, call in of_c.calls.items() if has_handle(call)]
     calls = f"_CALLS = {{\n{wrapped(f'{quoted(name)}: {quoted(parts)}' for name, parts in listed)}}}\n"
     text = with_region(LIBRARY, tree[LIBRARY], "the numbers", HEADER, numbers)
     text = with_region(LIBRARY, text, "the rows", HEADER, rows)

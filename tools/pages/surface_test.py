@@ -2,7 +2,10 @@
 
 from typing import NamedTuple
 
-from pages import surface_docs as docs, surface_facts as facts, surface_python as python, surface_rust as rust
+from pages import (
+    surface_calls as calls, surface_docs as docs, surface_facts as facts, surface_python as python, surface_rust as rust,
+    surface_version as version,
+)
 from pages.surface_checks import findings
 from pages.surface_header import HEADER
 from pages.surface_regions import Tree
@@ -33,7 +36,13 @@ OF_FILES = [
     Planted(HEADER, "uint64_t members, marks;", "uint64_t members;", (HEADER,)),
     Planted(HEADER, "typedef struct elephant_key {", "typedef struct elephant_keys {", ("elephant_key",)),
     Planted(HEADER, "elephant_clock(elephant *e, uint64_t moment)", "elephant_clock(elephant *e, uint32_t moment)", ("elephant_clock",)),
-    Planted(HEADER, "elephant_tick(elephant *e, uint64_t seconds)", "elephant_tick(elephant *e, uint64_t moment)", ("elephant_tick",)),
+    Planted(HEADER, "elephant_tick(elephant *e, uint64_t seconds)", "elephant_tick(elephant *e, uint64_t moment)", (calls.SOURCE,)),
+    Planted(HEADER, "elephant_ahead(elephant *e, uint64_t moment,", "elephant_ahead(elephant *e, uint64_t until,", ("elephant_ahead",)),
+    Planted(HEADER, "elephant_now(const elephant *e,", "elephant_now(elephant *e,", ("elephant_now", "const")),
+    Planted(HEADER, "elephant_tell(elephant *e,", "elephant_tell(const elephant *e,", ("elephant_tell",)),
+    Planted(HEADER, "const char *elephant_code_text(int32_t code);", "", ("elephant_code_text",)),
+    Planted(calls.SOURCE, "return inner_event(e, CALL_TICK, ", "return inner_event(e, CALL_CLOCK, ", (calls.SOURCE,)),
+    Planted(calls.SOURCE, 'return "IsRoot: ', 'return "Root: ', (calls.SOURCE,)),
     Planted(HEADER, "void elephant_close(elephant *e)", "int32_t elephant_close(elephant *e)", ("elephant_close",)),
     Planted(HEADER, "int32_t elephant_groups(elephant *e, uint64_t *rows);", "", ("elephant_groups",)),
     Planted(HEADER, "#define ELEPHANT_NEVER UINT64_MAX", "#define ELEPHANT_NEVER 0", ("ELEPHANT_NEVER",)),
@@ -78,12 +87,25 @@ OF_FILES = [
     Planted(HEADER, "content has at most 1,048,576 bytes", "content has few bytes", ("it says nothing, and the sources 1048576",)),
     Planted(HEADER, "; past 253402300799 */", "; past 253402300798 */", (HEADER,)),
     Planted(facts.ERRORS, "the line has more than 8,192 bytes", "the line has more than 8,193 bytes", ("sources 8192",)),
+    Planted(HEADER, '#define ELEPHANT_LIBRARY_VERSION "', '#define ELEPHANT_LIBRARY_VERSION "1', (HEADER,)),
+    Planted(HEADER, "LIBRARY_VERSION_NUMBER ", "LIBRARY_VERSION_NUMBER 1", (HEADER,)),
+    Planted(HEADER, "/* SPDX-License-Identifier: ", "/* SPDX-License-Identifier: X", (HEADER,)),
+    Planted(version.PROGRAM, 'const VERSION: &str = "', 'const VERSION: &str = "1', (version.PROGRAM,)),
+    Planted(version.PROJECT, '\nversion = "', '\nversion = "1', (version.PROJECT,)),
+    Planted(version.PACKAGE, '__version__ = "', '__version__ = "1', (version.PACKAGE,)),
+    Planted(version.CRATE, '\nversion = "', '\nversion = "1', (version.CRATE,)),
+    Planted(version.CRATE, "\nlicense-file = ", "\nlicense = ", (version.CRATE,)),
     Planted(docs.OF_EVENTS[0], "Each of the 32 events", "Each of the 31 events", (docs.OF_EVENTS[0],)),
     Planted(docs.OF_EVENTS[1], "each of the 32 events", "each of the 33 events", (docs.OF_EVENTS[1],)),
 ]
 ALL_OF_A_REFUSAL = (HEADER, python.ERRORS, python.NAMES, rust.SYS, rust.ERRORS, docs.ERRORS)
 # A fault, or something new, of a source.
 OF_SOURCES = [
+    Planted(version.VERSION, "\n", "1\n", (*version.OF_VERSION, version.CHANGES)),
+    Planted(
+        version.LICENSE, "SPDX-License-Identifier: ", "SPDX-License-Identifier: MIT-",
+        (HEADER, version.CRATE, *version.COPIES, "README.md"),
+    ),
     Planted(facts.REFUSAL, "Refusal::IsRoot => 11,", "Refusal::IsRoot => 42,", (HEADER, python.ERRORS, rust.SYS, rust.TESTED, docs.ERRORS)),
     Planted(facts.REFUSAL, 'Refusal::IsRoot => "IsRoot"', 'Refusal::IsRoot => "Root"', ALL_OF_A_REFUSAL),
     Planted(facts.ERRORS, "the root can't be made,", "the root can't be lost,", (HEADER, python.ERRORS, rust.ERRORS, docs.ERRORS)),
@@ -97,9 +119,14 @@ OF_SOURCES = [
     Planted(facts.CODES, "Refusal::Full(which) => Some", "Refusal::TooBig(which) => Some", (HEADER,)),
     Planted(facts.LIMITS, "        marks: 10_000,", "        marks: 20_000,", (docs.SCRIPT, HEADER, python.ANSWERS, rust.VALUES, "help")),
     Planted(facts.HELP_PAGES, "1,048,576      no 17 TooBig", "1,048,577      no 17 TooBig", (facts.HELP_PAGES,)),
-    Planted(facts.FIELDS, "    pub policy: u64,", "    pub size: u64,\n    pub policy: u64,", (HEADER, rust.SYS, python.LIBRARY)),
-    Planted(facts.FIELDS, "    pub since: u64,\n    pub file: u64,", "    pub file: u64,\n    pub since: u64,", (HEADER, rust.SYS)),
-    Planted(facts.FIELD_RULES, "kind_number policy.All = 1", "kind_number policy.All = 4", ("ELEPHANT_KEEP_ALL",)),
+    Planted(facts.STATS, "length, policy, seconds,", "length, size, policy, seconds,", (HEADER, rust.SYS, python.LIBRARY, calls.SOURCE)),
+    Planted(facts.KEPT, "`elephant_key`: since, file,", "`elephant_key`: file, since,", (HEADER, rust.SYS)),
+    Planted(facts.NUMBER_RULES, "kind_number policy.All = 1", "kind_number policy.All = 4", ("ELEPHANT_KEEP_ALL",)),
+    Planted(facts.NUMBER_RULES, "fate_numbers fate.Open = single 1", "fate_numbers fate.Open = single 5", ("ELEPHANT_IS_OPEN",)),
+    Planted(facts.NUMBER_RULES, "fifth = 1; sixth", "fifth = 3; sixth", ("ELEPHANT_BY_AGE",)),
+    Planted(facts.CALLS, "    Call::Link,\n    Call::Unlink,", "    Call::Unlink,\n    Call::Link,", ("LATE hasn't the variants",)),
+    Planted(facts.CALLS, "    Tick,\n", "    Tick,\n    Tock,\n", ("LATE hasn't the variants",)),
+    Planted(facts.KINDS, "    Kind::Rung,\n", "    Kind::Rung,\n    Kind::Ring,\n", ("KINDS hasn't the variants",)),
     Planted(facts.TAGS, "1 => moment(number).map(Tag::At)", "3 => moment(number).map(Tag::At)", ("ELEPHANT_AT",)),
     Planted(
         facts.COMMAND, '(Command::Unlink, "unlink", "", &[Path], Always)', '(Command::Unlink, "remove", "", &[Path], Always)',
@@ -114,7 +141,8 @@ OF_SOURCES = [
     Planted(facts.CHANGE, COUNTED, "", (python.COUNTS, docs.SCRIPT)),
     Planted(facts.STEP, "Unless (list_any (is_live_in directory) w.names) NotEmpty", "Unless false Exists", ("`rmdir`",)),
     Planted(facts.STEP, "(Unless (nat_le w.limits.files w.made.files) (Full which.Files)", "(id", ("`create`",)),
-    Planted(f"{facts.EXPORTS}/rows.rt", "row: &mut VersionFields,", "row: &mut NameFields,", ("elephant_row_version",)),
+    Planted(f"{facts.EXPORTS}/answers.rt", "    kind: u32,\n    index: u64,\n    inner", "    index: u64,\n    inner", (calls.SOURCE,)),
+    Planted(f"{facts.EXPORTS}/events.rt", "rows: &mut u64,", "rows: &mut [u8],", ("elephant_ahead",)),
 ]
 PLANTED = [*OF_FILES, *OF_SOURCES]
 

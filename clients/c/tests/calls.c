@@ -865,7 +865,41 @@ static void two_handles_share_nothing(void) {
     elephant_delete(e);
 }
 
+static void each_code_has_a_text(void) {
+    WANT(!strcmp(elephant_code_text(ELEPHANT_OK), "Ok: the call succeeded"));
+    WANT(!strcmp(elephant_code_text(ELEPHANT_NO_MEMORY), "NoMemory: there was no memory"));
+    WANT(!strcmp(elephant_code_text(ELEPHANT_NO_ENTRY), "NoEntry: the path names nothing"));
+    WANT(!strcmp(elephant_code_text(ELEPHANT_NO_ROW), "NoRow: the kept list has no row of that index"));
+    WANT(!strcmp(elephant_code_text(-1), "no code has this number"));
+    WANT(!strcmp(elephant_code_text(ELEPHANT_SYNTAX + 1), "no code has this number"));
+}
+
+static void the_library_has_the_version_of_its_header(void) {
+    char text[32];
+    uint32_t number = elephant_library_version_number();
+    WANT(!strcmp(elephant_library_version(), ELEPHANT_LIBRARY_VERSION));
+    WANT(number == ELEPHANT_LIBRARY_VERSION_NUMBER);
+    snprintf(text, sizeof text, "%u.%u.%u", (unsigned)(number / 1000000), (unsigned)(number / 1000 % 1000), (unsigned)(number % 1000));
+    WANT(!strcmp(text, ELEPHANT_LIBRARY_VERSION));
+}
+
+/* What only looks takes a const handle. */
+static uint64_t moment_of(const elephant *e) {
+    uint64_t moment;
+    OK(elephant_now(e, &moment));
+    return moment;
+}
+
+static void a_const_handle_is_looked_at(void) {
+    elephant *e = with_file(0);
+    WANT(moment_of(e) == 10);
+    elephant_delete(e);
+}
+
 int main(void) {
+    each_code_has_a_text();
+    the_library_has_the_version_of_its_header();
+    a_const_handle_is_looked_at();
     a_handle_is_opened_and_closed();
     limits_above_the_largest_are_refused();
     a_closed_handle_answers();

@@ -350,6 +350,37 @@ static void refuse_trim(void) {
     }
 }
 
+/* Without memory a bad name, a path without its first slash, and a number that is no moment are still refused for what they are. Calls
+ * of numbers alone ask for no memory. */
+static void bad_arguments_take_no_memory(void) {
+    const uint64_t late = 253402300800;
+    uint64_t number, moment;
+    elephant *e = ready(0);
+    all_after = 1;
+    seen = 0;
+    left = 0;
+    CODE(ELEPHANT_BAD_PATH, elephant_create(e, TEXT("f"), &number));
+    CODE(ELEPHANT_BAD_PATH, elephant_read(e, TEXT(""), ELEPHANT_NOW, 0, &number));
+    CODE(ELEPHANT_BAD_PATH, elephant_versions(e, TEXT("f"), 7, 0, &number));
+    CODE(ELEPHANT_BAD_PATH, elephant_rename(e, TEXT("f"), TEXT("/g")));
+    CODE(ELEPHANT_BAD_PATH, elephant_policy(e, TEXT("f"), TEXT("one")));
+    CODE(ELEPHANT_BAD_NAME, elephant_group_make(e, TEXT("a b")));
+    CODE(ELEPHANT_BAD_NAME, elephant_group_add(e, TEXT("a b"), TEXT("/f")));
+    CODE(ELEPHANT_BAD_PATH, elephant_group_add(e, TEXT("g"), TEXT("f")));
+    CODE(ELEPHANT_BAD_NAME, elephant_mark(e, TEXT("a b"), late, late));
+    CODE(ELEPHANT_BAD_MOMENT, elephant_mark(e, TEXT("g"), late, ELEPHANT_NEVER));
+    CODE(ELEPHANT_BAD_MOMENT, elephant_mark(e, TEXT("g"), 5, late));
+    CODE(ELEPHANT_BAD_MOMENT, elephant_unmark(e, TEXT("g"), late));
+    CODE(ELEPHANT_BAD_MOMENT, elephant_clock(e, late));
+    CODE(ELEPHANT_NO_HANDLE, elephant_truncate(e, 99, 0));
+    CODE(ELEPHANT_NO_HANDLE, elephant_close_handle(e, 99, &number));
+    OK(elephant_now(e, &moment));
+    OK(elephant_clock(e, moment + 1));
+    WANT(!seen);
+    left = -1;
+    elephant_delete(e);
+}
+
 static void refuse_all(uint32_t history) {
     refuse_open(history);
     for (size_t at = 0; at < sizeof attempts / sizeof *attempts; at++) refuse_each(&attempts[at], history);
@@ -367,6 +398,7 @@ int main(void) {
         refuse_line("unlink /no");
         refuse_trim();
     }
+    bad_arguments_take_no_memory();
     printf("%lu calls, %lu refused allocations: the store as it was\n", calls, refused);
     return 0;
 }

@@ -138,7 +138,7 @@ impl Store {
     fn code_at(&self, path: &str) -> i32 {
         let (mut length, mut copied) = (0, 0);
         let (now, mut none) = (sys::ELEPHANT_NOW, [0; 0]);
-        let read = |e| {
+        let read = |e: *mut sys::elephant| {
             // SAFETY: see `call`. No byte is written to `none`.
             unsafe {
                 let into = none.as_mut_ptr();

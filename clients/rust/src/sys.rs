@@ -2,6 +2,7 @@
 // Printed by tools/pages/surface --write, from include/elephant.h.
 
 use std::marker::{PhantomData, PhantomPinned};
+use std::os::raw::c_char;
 
 /// The type of a handle.
 #[repr(C)]
@@ -172,14 +173,17 @@ pub struct elephant_why_row {
 }
 
 extern "C" {
+    pub fn elephant_code_text(code: i32) -> *const c_char;
+    pub fn elephant_library_version() -> *const c_char;
+    pub fn elephant_library_version_number() -> u32;
     pub fn elephant_new(out: *mut *mut elephant);
     pub fn elephant_delete(e: *mut elephant);
     pub fn elephant_open(e: *mut elephant, limits: *const elephant_limits, history: u32) -> i32;
-    pub fn elephant_detail(e: *mut elephant, detail: *mut u64) -> i32;
+    pub fn elephant_detail(e: *const elephant, detail: *mut u64) -> i32;
     pub fn elephant_line(e: *mut elephant, line: *const u8, len: usize, length: *mut u64) -> i32;
     pub fn elephant_tell(e: *mut elephant, length: *mut u64) -> i32;
-    pub fn elephant_answer(e: *mut elephant, offset: u64, into: *mut u8, room: usize, copied: *mut u64) -> i32;
-    pub fn elephant_now(e: *mut elephant, moment: *mut u64) -> i32;
+    pub fn elephant_answer(e: *const elephant, offset: u64, into: *mut u8, room: usize, copied: *mut u64) -> i32;
+    pub fn elephant_now(e: *const elephant, moment: *mut u64) -> i32;
     pub fn elephant_clock(e: *mut elephant, moment: u64) -> i32;
     pub fn elephant_tick(e: *mut elephant, seconds: u64) -> i32;
     pub fn elephant_mkdir(e: *mut elephant, path: *const u8, len: usize, directory: *mut u64) -> i32;
@@ -197,9 +201,9 @@ extern "C" {
     pub fn elephant_open_read(e: *mut elephant, path: *const u8, len: usize, tag: u32, number: u64, handle: *mut u64) -> i32;
     pub fn elephant_read(e: *mut elephant, path: *const u8, len: usize, tag: u32, number: u64, length: *mut u64) -> i32;
     pub fn elephant_read_handle(e: *mut elephant, handle: u64, length: *mut u64) -> i32;
-    pub fn elephant_take(e: *mut elephant, offset: u64, into: *mut u8, room: usize, copied: *mut u64) -> i32;
+    pub fn elephant_take(e: *const elephant, offset: u64, into: *mut u8, room: usize, copied: *mut u64) -> i32;
     pub fn elephant_read_into(
-        e: *mut elephant,
+        e: *const elephant,
         path: *const u8,
         len: usize,
         tag: u32,
@@ -211,7 +215,7 @@ extern "C" {
         copied: *mut u64,
     ) -> i32;
     pub fn elephant_read_handle_into(
-        e: *mut elephant,
+        e: *const elephant,
         handle: u64,
         offset: u64,
         into: *mut u8,
@@ -227,18 +231,18 @@ extern "C" {
         number: u64,
         row: *mut elephant_stat_row,
     ) -> i32;
-    pub fn elephant_rung(e: *mut elephant, index: u64, age: *mut u64, width: *mut u64) -> i32;
+    pub fn elephant_rung(e: *const elephant, index: u64, age: *mut u64, width: *mut u64) -> i32;
     pub fn elephant_versions(e: *mut elephant, path: *const u8, len: usize, tag: u32, number: u64, rows: *mut u64) -> i32;
-    pub fn elephant_row_version(e: *mut elephant, index: u64, row: *mut elephant_version_row) -> i32;
+    pub fn elephant_row_version(e: *const elephant, index: u64, row: *mut elephant_version_row) -> i32;
     pub fn elephant_list(e: *mut elephant, path: *const u8, len: usize, tag: u32, number: u64, rows: *mut u64) -> i32;
     pub fn elephant_restorable(e: *mut elephant, rows: *mut u64) -> i32;
-    pub fn elephant_row_name(e: *mut elephant, index: u64, row: *mut elephant_name_row) -> i32;
-    pub fn elephant_row_bytes(e: *mut elephant, index: u64, into: *mut u8, room: usize, length: *mut u64) -> i32;
+    pub fn elephant_row_name(e: *const elephant, index: u64, row: *mut elephant_name_row) -> i32;
+    pub fn elephant_row_bytes(e: *const elephant, index: u64, into: *mut u8, room: usize, length: *mut u64) -> i32;
     pub fn elephant_due(e: *mut elephant, rows: *mut u64) -> i32;
     pub fn elephant_ahead(e: *mut elephant, moment: u64, rows: *mut u64) -> i32;
-    pub fn elephant_row_key(e: *mut elephant, index: u64, key: *mut elephant_key) -> i32;
+    pub fn elephant_row_key(e: *const elephant, index: u64, key: *mut elephant_key) -> i32;
     pub fn elephant_usage(e: *mut elephant, rows: *mut u64) -> i32;
-    pub fn elephant_row_usage(e: *mut elephant, index: u64, row: *mut elephant_usage_row) -> i32;
+    pub fn elephant_row_usage(e: *const elephant, index: u64, row: *mut elephant_usage_row) -> i32;
     pub fn elephant_policy(e: *mut elephant, path: *const u8, len: usize, policy: *const u8, policy_len: usize) -> i32;
     pub fn elephant_default(e: *mut elephant, path: *const u8, len: usize, policy: *const u8, policy_len: usize) -> i32;
     pub fn elephant_group_make(e: *mut elephant, group: *const u8, group_len: usize) -> i32;
@@ -248,13 +252,13 @@ extern "C" {
     pub fn elephant_mark(e: *mut elephant, group: *const u8, group_len: usize, moment: u64, until: u64) -> i32;
     pub fn elephant_unmark(e: *mut elephant, group: *const u8, group_len: usize, moment: u64) -> i32;
     pub fn elephant_groups(e: *mut elephant, rows: *mut u64) -> i32;
-    pub fn elephant_row_group(e: *mut elephant, index: u64, row: *mut elephant_group_row) -> i32;
-    pub fn elephant_row_member(e: *mut elephant, index: u64, member: u64, file: *mut u64) -> i32;
-    pub fn elephant_row_mark(e: *mut elephant, index: u64, mark: u64, row: *mut elephant_mark_row) -> i32;
+    pub fn elephant_row_group(e: *const elephant, index: u64, row: *mut elephant_group_row) -> i32;
+    pub fn elephant_row_member(e: *const elephant, index: u64, member: u64, file: *mut u64) -> i32;
+    pub fn elephant_row_mark(e: *const elephant, index: u64, mark: u64, row: *mut elephant_mark_row) -> i32;
     pub fn elephant_why(e: *mut elephant, path: *const u8, len: usize, tag: u32, number: u64, row: *mut elephant_why_row) -> i32;
-    pub fn elephant_why_group(e: *mut elephant, into: *mut u8, room: usize, length: *mut u64) -> i32;
+    pub fn elephant_why_group(e: *const elephant, into: *mut u8, room: usize, length: *mut u64) -> i32;
     pub fn elephant_clean(e: *mut elephant, removed: *mut elephant_key) -> i32;
     pub fn elephant_pass(e: *mut elephant, budget: u64, removed: *mut u64, finished: *mut u64) -> i32;
-    pub fn elephant_history(e: *mut elephant, folded: *mut u64, entries: *mut u64) -> i32;
+    pub fn elephant_history(e: *const elephant, folded: *mut u64, entries: *mut u64) -> i32;
     pub fn elephant_trim(e: *mut elephant, folded: *mut u64) -> i32;
 }

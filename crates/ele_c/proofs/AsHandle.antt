@@ -5,8 +5,8 @@ use Rattle.std.proofs.BoxSteps.Form.{Bx}
 use Rattle.std.specs.contracts.alloc.Global as heap
 use Rattle.std.proofs.alloc.Global.TheLaws as heap_laws
 use Rattle.std.specs.contracts.impls.GlobalAllocator.TheImpl.{ghosts, dict}
-use Rattle.ele_c_calls.specs.contracts.handle.Elephant as handle
-use Rattle.ele_c_calls.proofs.handle.Elephant.TheLaws as handle_laws
+use Rattle.ele_c.specs.contracts.handle.Elephant as handle
+use Rattle.ele_c.proofs.handle.Elephant.TheLaws as handle_laws
 
 abbrev pub E : Bx
 E = record { row = handle.the_row; laws = handle_laws.the_row_laws; al = record { row = heap.the_row; laws = heap_laws.the_row_laws; g = ghosts; d = dict; drops = impl [] tnil dnil } }

@@ -1,1 +1,2 @@
 pub mod AsHandle
+pub mod AsStore

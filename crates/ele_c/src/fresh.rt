@@ -1,9 +1,9 @@
 //! A closed handle on the heap, as its pointer.
 ghost use Rattle.std.specs.Prelude.{◌≡◌};
-ghost use Rattle.ele_c_calls.specs.Given.{given, closed_handle};
+ghost use Rattle.ele_c.specs.Given.{given, closed_handle};
 
+use crate::handle::{Elephant, closed};
 use box_parts::Parts;
-use ele_c_calls::{Elephant, closed};
 use std::alloc::Global;
 use std::marker::Model;
 use std::ptr::null_mut;

@@ -1,30 +1,23 @@
-//! Elephant as a C library: an opaque handle, and the calls of `include/elephant.h`. A contract sees a handle as its store, if it
+//! Elephant as a C library: an opaque handle, and the calls below `include/elephant.h`. A contract sees a handle as its store, if it
 //! is open.
 #![tactic(auto)]
 
 ghost use Rattle.std.specs.Borrow.{sem};
-ghost use Rattle.ele_c_calls.specs.declared.handle.Elephant.{Elephant};
-ghost use Rattle.ele_c_calls.specs.Given.{given, handle_at};
+ghost use Rattle.ele_c.specs.declared.handle.Elephant.{Elephant};
+ghost use Rattle.ele_c.specs.Given.{given, handle_at};
 
+mod answers;
+mod events;
 mod fresh;
-mod groups;
-mod history;
+mod handle;
 mod lines;
-mod names;
 mod opens;
-mod questions;
-mod reads;
-mod rows;
-mod straight;
-mod writes;
 
 use box_parts::Parts;
-pub use ele_c_calls::Elephant;
-pub use ele_c_values::{
-    GroupFields, KeyFields, LimitFields, MarkFields, NameFields, StatFields, UsageFields,
-    VersionFields, WhyFields,
-};
+pub use ele_c_values::{LimitFields, Numbers};
 use fresh::{Grip, fresh};
+pub use handle::Elephant;
+use opens::elephant_close;
 use std::alloc::Global;
 
 /// Stores a closed handle on the heap at `out`, or null if memory is refused.
@@ -52,5 +45,5 @@ fn finish(parts: Parts<Elephant, Global>) {
     let boxed = parts.into_box();
     let alloc = *Box::allocator(&boxed);
     let mut elephant = Box::into_inner(boxed);
-    ele_c_calls::opens::close(alloc, &mut elephant);
+    elephant_close(alloc, &mut elephant);
 }

@@ -1,11 +1,10 @@
 //! Lines of the script language, and the texts of answers.
-ghost use Rattle.std.specs.Prelude.{Some};
-ghost use Rattle.ele_c_calls.specs.Calls.{RunsLine, Shows, ShowsPiece, TellsAgain};
-ghost use Rattle.ele_c_calls.specs.Stored.{stored};
-ghost use Rattle.ele_c_values.specs.Codes.{detail_of};
-ghost use Rattle.ele_c_values.specs.Fields.{told_or};
+ghost use Rattle.ele_c.specs.Calls.{RunsLine, TellsAgain};
+ghost use Rattle.ele_c.specs.Stored.{stored};
 
-use ele_c_calls::{Elephant, lines};
+use crate::handle::Elephant;
+use box_parts::Parts;
+use ele_c_values::codes::{CLOSED, OK, UNTOLD};
 use std::alloc::Global;
 
 /// Runs a line, and makes the text of its answer.
@@ -19,7 +18,20 @@ pub extern "C" fn elephant_line(
     ensures { RunsLine line.now (stored elephant.old) result (stored elephant.new) length.old
         length.new }
 {
-    lines::line(alloc, elephant, line, length)
+    if !elephant.is_open() {
+        return CLOSED;
+    }
+    let mut store = elephant.take(alloc).into_box();
+    let told = store.line(line);
+    let count = store.answer().len() as u64;
+    elephant.give(Parts::of(store));
+    match told {
+        Ok(()) => {
+            *length = count;
+            OK
+        }
+        Err(_) => UNTOLD,
+    }
 }
 
 /// Makes the text of the last call's answer.
@@ -28,29 +40,18 @@ pub extern "C" fn elephant_tell(alloc: Global, elephant: &mut Elephant, length: 
     ensures { TellsAgain (stored elephant.old) result (stored elephant.new) length.old
         length.new }
 {
-    lines::tell(alloc, elephant, length)
-}
-
-/// Copies a piece of the text.
-#[unsafe(no_mangle)]
-pub extern "C" fn elephant_answer(
-    alloc: Global,
-    elephant: &mut Elephant,
-    offset: u64,
-    into: &mut [u8],
-    copied: &mut u64,
-) -> i32
-    ensures { ShowsPiece (λ store. Some store.answer) offset (stored elephant.old) result
-        (stored elephant.new) into.old into.new copied.old copied.new }
-{
-    lines::answer(alloc, elephant, offset, into, copied)
-}
-
-/// Returns the detail of the last refusal.
-#[unsafe(no_mangle)]
-pub extern "C" fn elephant_detail(alloc: Global, elephant: &mut Elephant, detail: &mut u64) -> i32
-    ensures { Shows (λ store. told_or (detail_of store)) (stored elephant.old) result
-        (stored elephant.new) detail.old detail.new }
-{
-    lines::detail(alloc, elephant, detail)
+    if !elephant.is_open() {
+        return CLOSED;
+    }
+    let mut store = elephant.take(alloc).into_box();
+    let told = store.tell();
+    let count = store.answer().len() as u64;
+    elephant.give(Parts::of(store));
+    match told {
+        Ok(()) => {
+            *length = count;
+            OK
+        }
+        Err(_) => UNTOLD,
+    }
 }

@@ -1,10 +1,10 @@
 -- What the arguments of a call ask for.
-use Rattle.std.specs.Prelude.{◌≡◌, ◌≢◌, ◌⊎◌, ℕ, ◌==◌, nat_le, List, [], Option, Some, None, Result, Ok, Err, if◌then◌else◌}
+use Rattle.std.specs.Prelude.{◌≡◌, ◌≢◌, ◌⊎◌, ℕ, ◌==◌, nat_le, Bool, true, false, List, [], Option, Some, None, Result, Ok, Err, if◌then◌else◌}
 use Rattle.ele_c_values.specs.Codes.{never}
 use Rattle.ele_model.specs.declared.event.Event.{Event}
 use Rattle.ele_model.specs.declared.event.Event.TheVariants.{Clock}
 use Rattle.ele_model.specs.declared.event.Source.{Source}
-use Rattle.ele_model.specs.declared.event.Source.TheVariants.{Tagged}
+use Rattle.ele_model.specs.declared.event.Source.TheVariants.{Of, Tagged}
 use Rattle.ele_moment.specs.Last.{last_moment}
 use Rattle.ele_moment.specs.Name.{IsName}
 use Rattle.ele_path.specs.Path.{SpellsPath}
@@ -18,20 +18,32 @@ use Rattle.ele_printer.specs.LineFault.{fault_of_path}
 use Rattle.ele_printer.specs.declared.fault.LineFault.{LineFault}
 use Rattle.ele_printer.specs.declared.fault.LineFault.TheVariants.{NoMemory, BadName, BadMoment, Syntax}
 use Rattle.std.specs.Option.{option_map}
+use Rattle.ele_script.specs.PathWord.{begins_path}
 use Rattle.ele_script.specs.PolicyWord.{ReadsPolicy}
 
--- the value, or a fault. Paths, names and policies take memory, so a stop is possible in place of any other answer
-abbrev pub Finds : {X : Type 0} → (X → Type 0) → (LineFault → Type 0) → Result X LineFault → Type 0
-Finds is bad (Ok x) = is x
-Finds is bad (Err fault) = (fault ≡ NoMemory) ⊎ bad fault
+-- the value, or a fault; memory may stop the reading only if it takes memory
+abbrev pub Finds : {X : Type 0} → (X → Type 0) → (LineFault → Type 0) → Type 0 → Result X LineFault → Type 0
+Finds is bad takes (Ok x) = is x
+Finds is bad takes (Err fault) = ((fault ≡ NoMemory) × takes) ⊎ bad fault
+
+-- bytes that begin with a slash may be a path, whose names take memory; all others are refused without memory
+abbrev pub TakesPath : List ℕ → Type 0
+TakesPath bytes = begins_path bytes ≡ true
 
 -- a number that is no moment
 abbrev pub moment_of : ℕ → Result ℕ LineFault
 moment_of seconds = if nat_le seconds last_moment then Ok seconds else Err BadMoment
 
+-- a number that is one
+abbrev pub IsMoment : ℕ → Type 0
+IsMoment seconds = (moment : ℕ) × (moment_of seconds ≡ Ok moment)
+
 -- the end of a mark
 abbrev pub end_of : ℕ → Result (Option ℕ) LineFault
 end_of seconds = if seconds == never then Ok None else (if nat_le seconds last_moment then Ok (Some seconds) else Err BadMoment)
+
+abbrev pub IsEnd : ℕ → Type 0
+IsEnd until = (end : Option ℕ) × (end_of until ≡ Ok end)
 
 -- a tag by its kind and its number
 abbrev pub tag_of : ℕ → ℕ → Result Tag LineFault
@@ -60,7 +72,8 @@ IsNameFault bytes fault = (fault ≡ BadName) × ¬ IsName bytes
 
 -- a path
 abbrev pub AsksPath : (List (List ℕ) → Event) → List ℕ → Result Event LineFault → Type 0
-AsksPath event bytes = Finds (λ asked. (path : List (List ℕ)) × SpellsPath bytes path × (asked ≡ event path)) (IsPathFault bytes)
+AsksPath event bytes =
+    Finds (λ asked. (path : List (List ℕ)) × SpellsPath bytes path × (asked ≡ event path)) (IsPathFault bytes) (TakesPath bytes)
 
 -- two paths; their fault is that of the first one, if it has one
 abbrev pub IsPathsFault : List ℕ → List ℕ → LineFault → Type 0
@@ -69,6 +82,7 @@ IsPathsFault from to fault = IsPathFault from fault ⊎ (IsPathText from × IsPa
 abbrev pub AsksPaths : (List (List ℕ) → List (List ℕ) → Event) → List ℕ → List ℕ → Result Event LineFault → Type 0
 AsksPaths event from to =
     Finds (λ asked. (a b : List (List ℕ)) × SpellsPath from a × SpellsPath to b × (asked ≡ event a b)) (IsPathsFault from to)
+    (TakesPath from)
 
 -- a path with a tag; a fault of the path comes first
 abbrev pub IsTagged : List ℕ → ℕ → ℕ → TaggedPath → Type 0
@@ -80,11 +94,18 @@ IsTaggedFault bytes kind number fault = IsPathFault bytes fault ⊎ (IsPathText 
 abbrev pub AsksTagged : (TaggedPath → Event) → List ℕ → ℕ → ℕ → Result Event LineFault → Type 0
 AsksTagged event bytes kind number =
     Finds (λ asked. (tagged : TaggedPath) × IsTagged bytes kind number tagged × (asked ≡ event tagged)) (IsTaggedFault bytes kind number)
+    (TakesPath bytes)
 
 -- a path with a tag means the version to read
 abbrev pub AsksVersion : List ℕ → ℕ → ℕ → Result Source LineFault → Type 0
 AsksVersion bytes kind number =
     Finds (λ source. (tagged : TaggedPath) × IsTagged bytes kind number tagged × (source ≡ Tagged tagged)) (IsTaggedFault bytes kind number)
+    (TakesPath bytes)
+
+-- what a read copies: what a handle reads, or a version
+abbrev pub AsksSource : Bool → List ℕ → ℕ → ℕ → Result Source LineFault → Type 0
+AsksSource true bytes kind number source = source ≡ Ok (Of number)
+AsksSource false bytes kind number source = AsksVersion bytes kind number source
 
 -- a path at a moment; a fault of the path comes first
 abbrev pub IsTimedFault : List ℕ → ℕ → ℕ → LineFault → Type 0
@@ -93,7 +114,7 @@ IsTimedFault bytes kind number fault = IsPathFault bytes fault ⊎ (IsPathText b
 abbrev pub AsksAt : (PathAt → Event) → List ℕ → ℕ → ℕ → Result Event LineFault → Type 0
 AsksAt event bytes kind number =
     Finds (λ asked. (at : PathAt) × SpellsPath bytes at.path × (time_of kind number ≡ Ok at.moment) × (asked ≡ event at))
-    (IsTimedFault bytes kind number)
+    (IsTimedFault bytes kind number) (TakesPath bytes)
 
 -- a path, and a policy's word; a fault of the path comes first
 abbrev pub IsPolicyFault : List ℕ → List ℕ → LineFault → Type 0
@@ -102,11 +123,11 @@ IsPolicyFault bytes word fault = IsPathFault bytes fault ⊎ (IsPathText bytes �
 abbrev pub AsksPolicy : (List (List ℕ) → Policy → Event) → List ℕ → List ℕ → Result Event LineFault → Type 0
 AsksPolicy event bytes word =
     Finds (λ asked. (path : List (List ℕ)) × (policy : Policy) × SpellsPath bytes path × ReadsPolicy word (Ok policy) × (asked ≡ event path policy))
-    (IsPolicyFault bytes word)
+    (IsPolicyFault bytes word) (TakesPath bytes)
 
--- the name of a group
+-- the name of a group, which takes memory only if it is one
 abbrev pub AsksName : (List ℕ → Event) → List ℕ → Result Event LineFault → Type 0
-AsksName event group = Finds (λ asked. IsName group × (asked ≡ event group)) (IsNameFault group)
+AsksName event group = Finds (λ asked. IsName group × (asked ≡ event group)) (IsNameFault group) (IsName group)
 
 -- the name of a group, and a path; a fault of the name comes first
 abbrev pub IsMemberFault : List ℕ → List ℕ → LineFault → Type 0
@@ -115,16 +136,16 @@ IsMemberFault group bytes fault = IsNameFault group fault ⊎ (IsName group × I
 abbrev pub AsksMember : (List ℕ → List (List ℕ) → Event) → List ℕ → List ℕ → Result Event LineFault → Type 0
 AsksMember event group bytes =
     Finds (λ asked. (path : List (List ℕ)) × IsName group × SpellsPath bytes path × (asked ≡ event group path))
-    (IsMemberFault group bytes)
+    (IsMemberFault group bytes) (IsName group × TakesPath bytes)
 
--- the name of a group, and the moment of a mark; a fault of the name comes first
+-- the name of a group, and the moment of a mark; a fault of the name comes first, and only good arguments take memory
 abbrev pub IsMarkFault : List ℕ → ℕ → LineFault → Type 0
 IsMarkFault group moment fault = IsNameFault group fault ⊎ (IsName group × (moment_of moment ≡ Err fault))
 
 abbrev pub AsksMark : (List ℕ → ℕ → Event) → List ℕ → ℕ → Result Event LineFault → Type 0
 AsksMark event group moment =
     Finds (λ asked. IsName group × (moment_of moment ≡ Ok moment) × (asked ≡ event group moment))
-    (IsMarkFault group moment)
+    (IsMarkFault group moment) (IsName group × IsMoment moment)
 
 -- the same, with the end of the mark, whose fault comes last
 abbrev pub IsEndFault : List ℕ → ℕ → ℕ → LineFault → Type 0
@@ -134,7 +155,7 @@ IsEndFault group moment until fault =
 abbrev pub AsksEnd : (List ℕ → ℕ → Option ℕ → Event) → List ℕ → ℕ → ℕ → Result Event LineFault → Type 0
 AsksEnd event group moment until =
     Finds (λ asked. (end : Option ℕ) × IsName group × (moment_of moment ≡ Ok moment) × (end_of until ≡ Ok end) × (asked ≡ event group moment end))
-    (IsEndFault group moment until)
+    (IsEndFault group moment until) (IsName group × IsMoment moment × IsEnd until)
 
 -- numbers alone: the event itself, which takes no memory to be asked for
 abbrev pub Asks : Event → Result Event LineFault → Type 0

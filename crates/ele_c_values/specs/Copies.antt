@@ -1,5 +1,5 @@
 -- Copies into the caller's buffer.
-use Rattle.std.specs.Prelude.{◌≡◌, ℕ, ℤ, pos, List, take, drop, length, nat_le, Bool, true, false, Option, Some, None, Result, Ok, Err}
+use Rattle.std.specs.Prelude.{◌≡◌, ℕ, ℤ, pos, List, take, drop, length, nat_le, Bool, true, false, Result, Ok, Err}
 use Rattle.ele_embed.specs.Embedding.{State}
 use Rattle.ele_embed.specs.Takes.{CopiesRead}
 use Rattle.ele_files.specs.declared.files.reading.Copied.{Copied}
@@ -15,24 +15,19 @@ pub record CopiesPiece (bytes : List ℕ) (offset : ℕ) (old new : List ℕ) (c
   pub copied : take count new ≡ take (length old) (drop offset bytes)
   pub rest : drop count new ≡ drop count old
 
--- all of the bytes were copied to the start, if they fit, and nothing else was written
-abbrev pub CopiesIf : Bool → List ℕ → List ℕ → List ℕ → ℕ → ℕ → ℤ → Type 0
-CopiesIf true bytes old new before count code =
-    (code ≡ pos 0) × (count ≡ length bytes) × (take (length bytes) new ≡ bytes) × (drop (length bytes) new ≡ drop (length bytes) old)
-CopiesIf false bytes old new before count code = (code ≡ pos 70) × (count ≡ before) × (new ≡ old)
+-- whether bytes have room, if they are wanted whole
+abbrev pub has_room : Bool → List ℕ → List ℕ → Bool
+has_room true bytes old = nat_le (length bytes) (length old)
+has_room false bytes old = true
 
-abbrev pub CopiesWhole : List ℕ → List ℕ → List ℕ → ℕ → ℕ → ℤ → Type 0
-CopiesWhole bytes old new before count code = CopiesIf (nat_le (length bytes) (length old)) bytes old new before count code
+abbrev pub CopiesIf : Bool → List ℕ → ℕ → List ℕ → List ℕ → ℕ → ℕ → ℤ → Type 0
+CopiesIf true bytes offset old new before count code = (code ≡ pos 0) × CopiesPiece bytes offset old new count
+CopiesIf false bytes offset old new before count code = (code ≡ pos 70) × (count ≡ before) × (new ≡ old)
 
--- the bytes are copied whole, or there is a code, and nothing is written
-abbrev pub ShowsBytes : Result (List ℕ) ℤ → List ℕ → List ℕ → ℕ → ℕ → ℤ → Type 0
-ShowsBytes (Ok bytes) old new before count code = CopiesWhole bytes old new before count code
-ShowsBytes (Err why) old new before count code = (code ≡ why) × (count ≡ before) × (new ≡ old)
-
--- a piece of bytes is copied, or there is a code, and nothing is written
-abbrev pub ShowsPart : Option (List ℕ) → ℕ → List ℕ → List ℕ → ℕ → ℕ → ℤ → Type 0
-ShowsPart None offset old new before count code = (code ≡ pos 68) × (count ≡ before) × (new ≡ old)
-ShowsPart (Some bytes) offset old new before count code = (code ≡ pos 0) × CopiesPiece bytes offset old new count
+-- a piece of the bytes is copied, or there is a code, and nothing is written
+abbrev pub CopiesFound : Result (List ℕ) ℤ → Bool → ℕ → List ℕ → List ℕ → ℕ → ℕ → ℤ → Type 0
+CopiesFound (Ok bytes) whole offset old new before count code = CopiesIf (has_room whole bytes old) bytes offset old new before count code
+CopiesFound (Err why) whole offset old new before count code = (code ≡ why) × (count ≡ before) × (new ≡ old)
 
 -- bytes were copied; or the result is the number of the refusal or the fault, and nothing was written
 abbrev pub CopiesAsked : State → Result Source LineFault → ℕ → List ℕ → List ℕ → Result Copied ℤ → Type 0

@@ -1,5 +1,7 @@
 pub mod Codes
 pub mod Asks
+pub mod Call
 pub mod Copies
-pub mod Fields
+pub mod Numbers
+pub mod Kept
 pub mod Limits

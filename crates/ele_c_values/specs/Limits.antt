@@ -1,6 +1,6 @@
 -- The limits that a C program gives.
 use Rattle.std.specs.Prelude.{◌≡◌, Option, Some, None}
-use Rattle.ele_c_values.specs.declared.fields.LimitFields.{LimitFields}
+use Rattle.ele_c_values.specs.declared.limits.LimitFields.{LimitFields}
 use Rattle.ele_model.specs.Bounds.{AreBounds, Bounds}
 
 abbrev pub bounds_in : LimitFields → Bounds

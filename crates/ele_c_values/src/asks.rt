@@ -1,17 +1,15 @@
 //! What the arguments of a call ask for. A contract sees them as the bytes and numbers that C gives.
-ghost use Rattle.std.specs.Prelude.{◌≡◌, Ok};
-ghost use Rattle.ele_c_values.specs.Asks.{AsksAt, AsksMember, AsksPath, AsksTagged, AsksVersion, CopiesBytes, Finds, IsEndFault, IsMarkFault, IsMemberFault, IsNameFault, IsPathFault, IsPathsFault, IsPolicyFault, IsTagged, IsTaggedFault, IsTimedFault, end_of, moment_of, tag_of, time_of};
-ghost use Rattle.ele_model.specs.declared.event.Event.TheVariants as event;
-ghost use Rattle.ele_model.specs.declared.event.Source.TheVariants.{Tagged};
+ghost use Rattle.std.specs.Prelude.{◌≡◌, Ok, OnOk};
+ghost use Rattle.ele_c_values.specs.Asks.{AsksSource, CopiesBytes, Finds, IsEnd, IsEndFault, IsMarkFault, IsMemberFault, IsMoment, IsNameFault, IsPathFault, IsPathsFault, IsPolicyFault, IsTagged, IsTaggedFault, IsTimedFault, TakesPath, end_of, moment_of, tag_of, time_of};
 ghost use Rattle.ele_moment.specs.Name.{IsName};
 ghost use Rattle.ele_path.specs.Path.{SpellsPath};
 ghost use Rattle.ele_script.specs.PolicyWord.{ReadsPolicy};
 
 use crate::codes::NEVER;
 use ele_model::{
-    Boxed, ByteList, Event, Moment, Name, Path, PathAt, Policy, Source, Tag, TaggedPath, VersionNo,
+    Boxed, ByteList, Handle, Moment, Name, Path, PathAt, Policy, Source, Tag, TaggedPath, VersionNo,
 };
-use ele_script::{LineFault, read_policy};
+use ele_script::{LineFault, begins_path, read_policy};
 use std::alloc::Global;
 
 /// A moment.
@@ -54,17 +52,23 @@ fn time(kind: u32, number: u64) -> Result<Option<Moment>, LineFault>
     }
 }
 
-/// A path.
-pub fn path(alloc: Global, bytes: &[u8]) -> Result<Path, LineFault>
-    ensures { Finds (SpellsPath bytes.now) (IsPathFault bytes.now) result }
+/// A path. It takes no memory unless it begins with a slash.
+#[tactic(auto, using(crate::proofs::Paths::no_slash))]
+pub(crate) fn path(alloc: Global, bytes: &[u8]) -> Result<Path, LineFault>
+    ensures found { Finds (SpellsPath bytes.now) (IsPathFault bytes.now) (TakesPath bytes.now)
+        result }
+    ensures takes { OnOk result (TakesPath bytes.now) }
 {
+    if !begins_path(bytes) {
+        return Err(LineFault::BadPath);
+    }
     Ok(Path::read(alloc, bytes)?)
 }
 
 /// Two paths.
-pub fn paths(alloc: Global, from: &[u8], to: &[u8]) -> Result<(Path, Path), LineFault>
+pub(crate) fn paths(alloc: Global, from: &[u8], to: &[u8]) -> Result<(Path, Path), LineFault>
     ensures { Finds (λ both. SpellsPath from.now both.0 × SpellsPath to.now both.1)
-        (IsPathsFault from.now to.now) result }
+        (IsPathsFault from.now to.now) (TakesPath from.now) result }
 {
     let from = path(alloc, from)?;
     let to = path(alloc, to)?;
@@ -73,7 +77,8 @@ pub fn paths(alloc: Global, from: &[u8], to: &[u8]) -> Result<(Path, Path), Line
 
 /// A path with a tag.
 pub fn tagged(alloc: Global, bytes: &[u8], kind: u32, number: u64) -> Result<TaggedPath, LineFault>
-    ensures { Finds (IsTagged bytes.now kind number) (IsTaggedFault bytes.now kind number) result }
+    ensures { Finds (IsTagged bytes.now kind number) (IsTaggedFault bytes.now kind number)
+        (TakesPath bytes.now) result }
 {
     let path = path(alloc, bytes)?;
     let tag = tag(kind, number)?;
@@ -81,50 +86,60 @@ pub fn tagged(alloc: Global, bytes: &[u8], kind: u32, number: u64) -> Result<Tag
 }
 
 /// A path at a moment.
-fn path_at(alloc: Global, bytes: &[u8], kind: u32, number: u64) -> Result<PathAt, LineFault>
+pub(crate) fn path_at(
+    alloc: Global,
+    bytes: &[u8],
+    kind: u32,
+    number: u64,
+) -> Result<PathAt, LineFault>
     ensures { Finds (λ at. SpellsPath bytes.now at.path × (time_of kind number ≡ Ok at.moment))
-        (IsTimedFault bytes.now kind number) result }
+        (IsTimedFault bytes.now kind number) (TakesPath bytes.now) result }
 {
     let path = path(alloc, bytes)?;
     let moment = time(kind, number)?;
     Ok(PathAt { path, moment })
 }
 
-/// The name of a group.
-pub fn name(alloc: Global, bytes: &[u8]) -> Result<Boxed<Name>, LineFault>
-    ensures { Finds (λ name. IsName bytes.now × (name ≡ bytes.now)) (IsNameFault bytes.now) result }
+/// The name of a group. It takes memory only if it is one.
+pub(crate) fn name(alloc: Global, bytes: &[u8]) -> Result<Boxed<Name>, LineFault>
+    ensures { Finds (λ name. IsName bytes.now × (name ≡ bytes.now)) (IsNameFault bytes.now)
+        (IsName bytes.now) result }
 {
     let name = Name::new(bytes)?;
     Ok(Boxed::new(alloc, name)?)
 }
 
 /// The name of a group, and a path.
-fn member(alloc: Global, group: &[u8], bytes: &[u8]) -> Result<(Boxed<Name>, Path), LineFault>
+pub(crate) fn member(
+    alloc: Global,
+    group: &[u8],
+    bytes: &[u8],
+) -> Result<(Boxed<Name>, Path), LineFault>
     ensures { Finds (λ both. IsName group.now × (both.0 ≡ group.now) × SpellsPath bytes.now both.1)
-        (IsMemberFault group.now bytes.now) result }
+        (IsMemberFault group.now bytes.now) (IsName group.now × TakesPath bytes.now) result }
 {
-    let name = name(alloc, group)?;
+    let name = Name::new(group)?;
     let path = path(alloc, bytes)?;
-    Ok((name, path))
+    Ok((Boxed::new(alloc, name)?, path))
 }
 
 /// The name of a group, and the moment of a mark.
-pub fn name_at(
+pub(crate) fn name_at(
     alloc: Global,
     group: &[u8],
     seconds: u64,
 ) -> Result<(Boxed<Name>, Moment), LineFault>
     ensures { Finds (λ both. IsName group.now × (both.0 ≡ group.now)
         × (moment_of seconds ≡ Ok both.1))
-        (IsMarkFault group.now seconds) result }
+        (IsMarkFault group.now seconds) (IsName group.now × IsMoment seconds) result }
 {
-    let name = name(alloc, group)?;
+    let name = Name::new(group)?;
     let at = moment(seconds)?;
-    Ok((name, at))
+    Ok((Boxed::new(alloc, name)?, at))
 }
 
 /// The name of a group, the moment of a mark, and its end.
-pub fn mark(
+pub(crate) fn mark(
     alloc: Global,
     group: &[u8],
     seconds: u64,
@@ -132,18 +147,23 @@ pub fn mark(
 ) -> Result<(Boxed<Name>, Moment, Option<Moment>), LineFault>
     ensures { Finds (λ all. IsName group.now × (all.0 ≡ group.now)
         × (moment_of seconds ≡ Ok all.1) × (end_of until ≡ Ok all.2))
-        (IsEndFault group.now seconds until) result }
+        (IsEndFault group.now seconds until)
+        (IsName group.now × IsMoment seconds × IsEnd until) result }
 {
-    let name = name(alloc, group)?;
+    let name = Name::new(group)?;
     let at = moment(seconds)?;
     let end = end(until)?;
-    Ok((name, at, end))
+    Ok((Boxed::new(alloc, name)?, at, end))
 }
 
 /// A path, and the policy that a word is.
-pub fn policy(alloc: Global, bytes: &[u8], word: &[u8]) -> Result<(Path, Boxed<Policy>), LineFault>
+pub(crate) fn policy(
+    alloc: Global,
+    bytes: &[u8],
+    word: &[u8],
+) -> Result<(Path, Boxed<Policy>), LineFault>
     ensures { Finds (λ both. SpellsPath bytes.now both.0 × ReadsPolicy word.now (Ok both.1))
-        (IsPolicyFault bytes.now word.now) result }
+        (IsPolicyFault bytes.now word.now) (TakesPath bytes.now) result }
 {
     let path = path(alloc, bytes)?;
     let policy = read_policy(word)?;
@@ -151,7 +171,7 @@ pub fn policy(alloc: Global, bytes: &[u8], word: &[u8]) -> Result<(Path, Boxed<P
 }
 
 /// A copy of bytes.
-pub fn content(alloc: Global, bytes: &[u8]) -> Result<ByteList, LineFault>
+pub(crate) fn content(alloc: Global, bytes: &[u8]) -> Result<ByteList, LineFault>
     ensures { CopiesBytes bytes.now result }
 {
     if bytes.is_empty() {
@@ -160,92 +180,21 @@ pub fn content(alloc: Global, bytes: &[u8]) -> Result<ByteList, LineFault>
     Ok(ByteList::from_vec(Vec::from_slice(alloc, bytes)?))
 }
 
-/// To open a handle that reads.
-pub fn open_read(alloc: Global, bytes: &[u8], kind: u32, number: u64) -> Result<Event, LineFault>
-    ensures { AsksTagged event.OpenRead bytes.now kind number result }
+/// What a read copies: what a handle reads, or a version.
+pub fn source(
+    alloc: Global,
+    by_handle: bool,
+    bytes: &[u8],
+    kind: u32,
+    number: u64,
+) -> Result<Source, LineFault>
+    ensures { AsksSource by_handle bytes.now kind number result }
 {
-    match tagged(alloc, bytes, kind, number) {
-        Ok(tagged) => Ok(Event::OpenRead(tagged)),
-        Err(fault) => Err(fault),
+    if by_handle {
+        return Ok(Source::Of(Handle(number)));
     }
-}
-
-/// To read a version.
-pub fn read(alloc: Global, bytes: &[u8], kind: u32, number: u64) -> Result<Event, LineFault>
-    ensures { AsksTagged (λ tagged. event.Read (Tagged tagged)) bytes.now kind number result }
-{
-    match tagged(alloc, bytes, kind, number) {
-        Ok(tagged) => Ok(Event::Read(Source::Tagged(tagged))),
-        Err(fault) => Err(fault),
-    }
-}
-
-/// The version that is read.
-pub fn version(alloc: Global, bytes: &[u8], kind: u32, number: u64) -> Result<Source, LineFault>
-    ensures { AsksVersion bytes.now kind number result }
-{
     match tagged(alloc, bytes, kind, number) {
         Ok(tagged) => Ok(Source::Tagged(tagged)),
-        Err(fault) => Err(fault),
-    }
-}
-
-/// To say what a path and its tag mean.
-pub fn stat(alloc: Global, bytes: &[u8], kind: u32, number: u64) -> Result<Event, LineFault>
-    ensures { AsksTagged event.Stat bytes.now kind number result }
-{
-    match tagged(alloc, bytes, kind, number) {
-        Ok(tagged) => Ok(Event::Stat(tagged)),
-        Err(fault) => Err(fault),
-    }
-}
-
-/// To list the versions of a file.
-pub fn versions(alloc: Global, bytes: &[u8], kind: u32, number: u64) -> Result<Event, LineFault>
-    ensures { AsksAt event.Versions bytes.now kind number result }
-{
-    match path_at(alloc, bytes, kind, number) {
-        Ok(at) => Ok(Event::Versions(at)),
-        Err(fault) => Err(fault),
-    }
-}
-
-/// To list the names in a directory.
-pub fn list(alloc: Global, bytes: &[u8], kind: u32, number: u64) -> Result<Event, LineFault>
-    ensures { AsksAt event.List bytes.now kind number result }
-{
-    match path_at(alloc, bytes, kind, number) {
-        Ok(at) => Ok(Event::List(at)),
-        Err(fault) => Err(fault),
-    }
-}
-
-/// To revert a file to a version.
-pub fn revert(alloc: Global, bytes: &[u8], number: u64) -> Result<Event, LineFault>
-    ensures { AsksPath (λ path. event.Revert path number) bytes.now result }
-{
-    match path(alloc, bytes) {
-        Ok(path) => Ok(Event::Revert(path, VersionNo(number))),
-        Err(fault) => Err(fault),
-    }
-}
-
-/// To add a file to a group.
-pub fn add(alloc: Global, group: &[u8], bytes: &[u8]) -> Result<Event, LineFault>
-    ensures { AsksMember event.GroupAdd group.now bytes.now result }
-{
-    match member(alloc, group, bytes) {
-        Ok(both) => Ok(Event::GroupAdd(both.0, both.1)),
-        Err(fault) => Err(fault),
-    }
-}
-
-/// To remove a file from a group.
-pub fn remove(alloc: Global, group: &[u8], bytes: &[u8]) -> Result<Event, LineFault>
-    ensures { AsksMember event.GroupRemove group.now bytes.now result }
-{
-    match member(alloc, group, bytes) {
-        Ok(both) => Ok(Event::GroupRemove(both.0, both.1)),
         Err(fault) => Err(fault),
     }
 }

@@ -1,7 +1,7 @@
 //! The result of a call, as codes and numbers for C. A contract sees these.
 ghost use Rattle.std.specs.Prelude.{◌≡◌, pos};
 ghost use Rattle.std.specs.Option.{option_copied};
-ghost use Rattle.ele_c_values.specs.Fields.{or_never};
+ghost use Rattle.ele_c_values.specs.Numbers.{or_never};
 ghost use Rattle.ele_c_values.specs.Codes.{code_of, detail_in, detail_of, limit_number, number_of, number_or_zero, reply_code, reply_detail, reply_number};
 
 use ele_embed::{Said, Store};

@@ -1,15 +1,14 @@
-//! Copies of the kept result into the caller's buffer.
-ghost use Rattle.std.specs.Option.{option_map};
+//! Copies into the caller's buffer.
 ghost use Rattle.std.specs.Result.{result_map_both};
-ghost use Rattle.ele_c_values.specs.Copies.{CopiesAsked, CopiesPiece, CopiesWhole, ShowsBytes, ShowsPart};
+ghost use Rattle.ele_c_values.specs.Copies.{CopiesAsked, CopiesFound, CopiesPiece};
 
-use crate::codes::{NO_RESULT, NO_ROOM, OK};
+use crate::codes::{NO_ROOM, OK};
 use ele_embed::{Copied, Store};
 use ele_model::Source;
 use ele_script::LineFault;
 
-/// Copies the bytes from the offset on, as many as fit, and returns how many.
-pub fn copy_piece(bytes: &[u8], offset: u64, into: &mut [u8]) -> u64
+// Copies the bytes from the offset on, as many as fit, and returns how many.
+fn copy_piece(bytes: &[u8], offset: u64, into: &mut [u8]) -> u64
     ensures { CopiesPiece bytes.now offset into.old into.new result }
 {
     if offset >= bytes.len() as u64 {
@@ -21,43 +20,31 @@ pub fn copy_piece(bytes: &[u8], offset: u64, into: &mut [u8]) -> u64
     count as u64
 }
 
-/// Copies all of the bytes if they fit, and sets `length` to how many there are.
-pub fn copy_whole(bytes: &[u8], into: &mut [u8], length: &mut u64) -> i32
-    ensures { CopiesWhole bytes.now into.old into.new length.old length.new result }
-{
-    if bytes.len() <= into.len() {
-        into[..bytes.len()].copy_from_slice(bytes);
-        *length = bytes.len() as u64;
-        return OK;
-    }
-    NO_ROOM
-}
-
-/// Copies the bytes, or returns the code.
-pub fn copy_found(found: Result<&[u8], i32>, into: &mut [u8], length: &mut u64) -> i32
-    ensures { ShowsBytes (result_map_both (λ bytes. bytes.now) (λ code. code) found.entry) into.old into.new length.old length.new result }
+/// Copies the bytes from the offset on, or returns the code. `NO_ROOM` if they are wanted whole and don't
+/// fit.
+pub fn copy_found(
+    found: Result<&[u8], i32>,
+    whole: bool,
+    offset: u64,
+    into: &mut [u8],
+    copied: &mut u64,
+) -> i32
+    ensures { CopiesFound (result_map_both (λ bytes. bytes.now) (λ code. code) found.entry) whole
+        offset into.old into.new copied.old copied.new result }
 {
     match found {
-        Ok(bytes) => copy_whole(bytes, into, length),
+        Ok(bytes) => {
+            if whole && bytes.len() > into.len() {
+                return NO_ROOM;
+            }
+            *copied = copy_piece(bytes, offset, into);
+            OK
+        }
         Err(code) => code,
     }
 }
 
-// Copies a piece of the bytes, if there are any.
-pub fn take_piece(bytes: Option<&[u8]>, offset: u64, into: &mut [u8], copied: &mut u64) -> i32
-    ensures { ShowsPart (option_map (λ bytes. bytes.now) bytes.entry) offset into.old into.new
-        copied.old copied.new result }
-{
-    match bytes {
-        Some(bytes) => {
-            *copied = copy_piece(bytes, offset, into);
-            OK
-        }
-        None => NO_RESULT,
-    }
-}
-
-// Copies the bytes, or returns the code.
+/// Copies what is read, or returns the code.
 pub fn copy_asked(
     store: &Store,
     asked: &Result<Source, LineFault>,

@@ -1,51 +1,43 @@
-//! Why a version is held, as a row. A contract sees it as the numbers that C gets.
+//! Why a version is held, in numbers.
 ghost use Rattle.std.specs.Prelude.{◌≡◌};
-ghost use Rattle.std.specs.Result.{result_map_both};
-ghost use Rattle.ele_c_values.specs.Fields.{due_fields, fate_fields, marked_in, or_never, why_in};
+ghost use Rattle.ele_c_values.specs.Kept.{why_in};
+ghost use Rattle.ele_c_values.specs.Numbers.{due_numbers, fate_numbers, or_never};
 
 use crate::codes::{NEVER, NO_RESULT, or_never};
-use crate::fields::WhyFields;
+use crate::numbers::{NONE, Numbers};
 use ele_embed::Said;
 use ele_model::{Cause, Fate, Moment};
 
-const NO_WHY: WhyFields = WhyFields {
-    fate: 0,
-    moment: 0,
-    until: 0,
-    level: 0,
-    cause: 0,
-    seconds: 0,
-    by: 0,
-};
-
-pub fn why_fields(said: &Said) -> WhyFields
+/// Why a version is held.
+pub(crate) fn why_in(said: &Said) -> Result<Numbers, i32>
     ensures { result ≡ why_in said.now }
 {
     match said {
-        Said::Why(Ok(fate)) => fate_fields(fate),
-        _ => NO_WHY,
+        Said::Why(Ok(fate)) => Ok(fate_numbers(fate)),
+        _ => Err(NO_RESULT),
     }
 }
 
-fn fate_fields(fate: &Fate) -> WhyFields
-    ensures { result ≡ fate_fields fate.now }
+// `elephant_why_row`: fate, moment, until, level, cause, seconds, by.
+fn fate_numbers(fate: &Fate) -> Numbers
+    ensures { result ≡ fate_numbers fate.now }
 {
     match fate {
-        Fate::Current => NO_WHY,
-        Fate::Open => WhyFields { fate: 1, ..NO_WHY },
-        Fate::Marked { group: _, mark } => WhyFields {
-            fate: 2,
-            moment: mark.at.seconds(),
-            until: or_never(mark.until),
-            ..NO_WHY
+        Fate::Current => NONE,
+        Fate::Open => Numbers { first: 1, ..NONE },
+        Fate::Marked { group: _, mark } => Numbers {
+            first: 2,
+            second: mark.at.seconds(),
+            third: or_never(mark.until),
+            ..NONE
         },
-        Fate::Kept { until, level } => WhyFields {
-            fate: 3,
-            until: or_never(*until),
-            level: level_number(*level),
-            ..NO_WHY
+        Fate::Kept { until, level } => Numbers {
+            first: 3,
+            third: or_never(*until),
+            fourth: level_number(*level),
+            ..NONE
         },
-        Fate::Due { since, cause } => due_fields(*since, cause),
+        Fate::Due { since, cause } => due_numbers(*since, cause),
     }
 }
 
@@ -58,35 +50,26 @@ fn level_number(level: Option<usize>) -> u64
     }
 }
 
-fn due_fields(since: Moment, cause: &Cause) -> WhyFields
-    ensures { result ≡ due_fields since cause.now }
+fn due_numbers(since: Moment, cause: &Cause) -> Numbers
+    ensures { result ≡ due_numbers since cause.now }
 {
-    let due = WhyFields {
-        fate: 4,
-        moment: since.seconds(),
-        ..NO_WHY
+    let due = Numbers {
+        first: 4,
+        second: since.seconds(),
+        ..NONE
     };
     match cause {
         Cause::AtOnce => due,
-        Cause::Age(interval) => WhyFields {
-            cause: 1,
-            seconds: interval.seconds(),
+        Cause::Age(interval) => Numbers {
+            fifth: 1,
+            sixth: interval.seconds(),
             ..due
         },
-        Cause::Displaced { level, by } => WhyFields {
-            level: *level as u64,
-            cause: 2,
-            by: by.0,
+        Cause::Displaced { level, by } => Numbers {
+            fourth: *level as u64,
+            fifth: 2,
+            seventh: by.0,
             ..due
         },
-    }
-}
-
-pub fn marked_in(said: &Said) -> Result<&[u8], i32>
-    ensures { result_map_both (λ bytes. bytes.now) (λ code. code) result ≡ marked_in said.now }
-{
-    match said {
-        Said::Why(Ok(Fate::Marked { group, mark: _ })) => Ok(group.bytes()),
-        _ => Err(NO_RESULT),
     }
 }

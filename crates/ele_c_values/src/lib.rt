@@ -1,18 +1,21 @@
-//! What crosses between C and a store: what the arguments of a call ask for, and an answer as codes, numbers, rows and copied bytes.
+//! What crosses between C and a store: what the arguments of a call ask for, and an answer as a code, numbers and copied bytes.
 //! A contract sees numbers and bytes.
 #![tactic(auto)]
 
 pub mod asks;
+pub mod bytes;
+pub mod call;
 pub mod codes;
 pub mod copies;
-pub mod counts;
-pub mod fates;
-mod fields;
+pub mod event;
+mod fates;
+mod groups;
+pub mod kept;
+pub mod kind;
 pub mod limits;
-pub mod rows;
-pub mod stats;
+mod names;
+mod numbers;
+mod stats;
 
-pub use fields::{
-    GroupFields, KeyFields, LimitFields, MarkFields, NameFields, StatFields, UsageFields,
-    VersionFields, WhyFields,
-};
+pub use limits::LimitFields;
+pub use numbers::Numbers;

@@ -1,90 +1,69 @@
-//! What a path means, as a row. A contract sees it as the numbers that C gets.
+//! What a path means, in numbers.
 ghost use Rattle.std.specs.Prelude.{◌≡◌};
-ghost use Rattle.std.specs.Option.{option_copied, option_map};
-ghost use Rattle.ele_c_values.specs.Fields.{directory_fields, file_fields, item_at, kind_number, rungs_in, rungs_of, seconds_of, stat_in};
+ghost use Rattle.std.specs.Option.{option_copied};
+ghost use Rattle.ele_c_values.specs.Kept.{rung_in, rungs_of, stat_in};
+ghost use Rattle.ele_c_values.specs.Numbers.{directory_numbers, file_numbers, policy_numbers};
 
-use crate::codes::or_never;
-use crate::fields::StatFields;
-use crate::rows::item_at;
+use crate::codes::{NO_RESULT, NO_ROW, or_never};
+use crate::numbers::{NONE, Numbers};
 use ele_model::{DirectoryRow, FileStat, Policy, Reply};
 
-pub fn stat_fields(reply: Option<&Reply>) -> StatFields
+/// What a path means.
+pub(crate) fn stat_in(reply: Option<&Reply>) -> Result<Numbers, i32>
     ensures { result ≡ stat_in (option_copied reply.entry) }
 {
     match reply {
-        Some(Reply::FileStat(stat)) => file_fields(stat.get()),
-        Some(Reply::DirStat(row)) => directory_fields(row.get()),
-        _ => StatFields {
-            is_directory: 0,
-            id: 0,
-            version: 0,
-            opened: 0,
-            closed: 0,
-            ended: 0,
-            length: 0,
-            policy: 0,
-            seconds: 0,
-            floor: 0,
-            rungs: 0,
-        },
+        Some(Reply::FileStat(stat)) => Ok(file_numbers(stat.get())),
+        Some(Reply::DirStat(row)) => Ok(directory_numbers(row.get())),
+        _ => Err(NO_RESULT),
     }
 }
 
-fn file_fields(stat: &FileStat) -> StatFields
-    ensures { result ≡ file_fields stat.now }
+// `elephant_stat_row`: is_directory, id, version, opened, closed, ended, length, policy, seconds, floor,
+// rungs.
+fn file_numbers(stat: &FileStat) -> Numbers
+    ensures { result ≡ file_numbers stat.now }
 {
-    let (info, policy) = (&stat.info, &stat.policy);
-    StatFields {
-        is_directory: 0,
-        id: stat.file.0,
-        version: info.number.0,
-        opened: info.opened.seconds(),
-        closed: info.closed.seconds(),
-        ended: or_never(info.ended),
-        length: info.length,
-        policy: kind_number(policy),
-        seconds: seconds_of(policy),
-        floor: policy.floor().number(),
-        rungs: rungs_of(policy).len() as u64,
+    let (kind, seconds, floor, rungs) = policy_numbers(&stat.policy);
+    Numbers {
+        first: 0,
+        second: stat.file.0,
+        third: stat.info.number.0,
+        fourth: stat.info.opened.seconds(),
+        fifth: stat.info.closed.seconds(),
+        sixth: or_never(stat.info.ended),
+        seventh: stat.info.length,
+        eighth: kind,
+        ninth: seconds,
+        tenth: floor,
+        eleventh: rungs,
     }
 }
 
-fn directory_fields(row: &DirectoryRow) -> StatFields
-    ensures { result ≡ directory_fields row.now }
+fn directory_numbers(row: &DirectoryRow) -> Numbers
+    ensures { result ≡ directory_numbers row.now }
 {
-    let policy = &row.default;
-    StatFields {
-        is_directory: 1,
-        id: row.id.0,
-        version: 0,
-        opened: 0,
-        closed: 0,
-        ended: 0,
-        length: 0,
-        policy: kind_number(policy),
-        seconds: seconds_of(policy),
-        floor: policy.floor().number(),
-        rungs: rungs_of(policy).len() as u64,
+    let (kind, seconds, floor, rungs) = policy_numbers(&row.default);
+    Numbers {
+        first: 1,
+        second: row.id.0,
+        eighth: kind,
+        ninth: seconds,
+        tenth: floor,
+        eleventh: rungs,
+        ..NONE
     }
 }
 
-fn kind_number(policy: &Policy) -> u64
-    ensures { result ≡ kind_number policy.now }
+// Its kind, its seconds, its floor, and how many rungs it has.
+fn policy_numbers(policy: &Policy) -> (u64, u64, u64, u64)
+    ensures { result ≡ policy_numbers policy.now }
 {
     match policy {
-        Policy::One => 0,
-        Policy::All => 1,
-        Policy::Safe(_, _) => 2,
-        Policy::Landmarks(_) => 3,
-    }
-}
-
-fn seconds_of(policy: &Policy) -> u64
-    ensures { result ≡ seconds_of policy.now }
-{
-    match policy {
-        Policy::Safe(interval, _) => interval.seconds(),
-        _ => 0,
+        Policy::One => (0, 0, 0, 0),
+        Policy::All => (1, 0, 0, 0),
+        Policy::Safe(interval, floor) => (2, interval.seconds(), floor.number(), 0),
+        Policy::Landmarks(ladder) => (3, 0, 0, ladder.pairs().len() as u64),
     }
 }
 
@@ -97,21 +76,21 @@ fn rungs_of(policy: &Policy) -> &[(u64, u64)]
     }
 }
 
-fn rungs_in(reply: Option<&Reply>) -> Option<&[(u64, u64)]>
-    ensures { option_map (λ rungs. rungs.now) result ≡ rungs_in (option_copied reply.entry) }
+/// A rung: age, width.
+pub(crate) fn rung_in(reply: Option<&Reply>, index: u64) -> Result<Numbers, i32>
+    ensures { result ≡ rung_in (option_copied reply.entry) index }
 {
-    match reply {
-        Some(Reply::FileStat(stat)) => Some(rungs_of(&stat.get().policy)),
-        Some(Reply::DirStat(row)) => Some(rungs_of(&row.get().default)),
-        _ => None,
-    }
-}
-
-pub fn rung_at(reply: Option<&Reply>, index: u64) -> Result<(u64, u64), i32>
-    ensures { result ≡ item_at (rungs_in (option_copied reply.entry)) index }
-{
-    match item_at(rungs_in(reply), index) {
-        Ok(rung) => Ok(*rung),
-        Err(code) => Err(code),
+    let rungs = match reply {
+        Some(Reply::FileStat(stat)) => rungs_of(&stat.get().policy),
+        Some(Reply::DirStat(row)) => rungs_of(&row.get().default),
+        _ => return Err(NO_RESULT),
+    };
+    match rungs.get(index as usize) {
+        Some(rung) => Ok(Numbers {
+            first: rung.0,
+            second: rung.1,
+            ..NONE
+        }),
+        None => Err(NO_ROW),
     }
 }

@@ -31,9 +31,9 @@ use Rattle.std.specs.contracts.alloc.Global as heap
 use Rattle.std.proofs.alloc.Global.TheLaws as heap_laws
 use Rattle.std.specs.contracts.impls.GlobalAllocator.TheImpl.{ghosts, dict}
 use Rattle.box_parts.specs.contracts.Parts as parts
-use Rattle.ele_c_calls.specs.Given.{handle_at}
-use Rattle.ele_c_calls.specs.contracts.handle.Elephant.{the_row as T}
-use Rattle.ele_c_calls.proofs.handle.Elephant.TheLaws as laws
+use Rattle.ele_c.specs.Given.{handle_at}
+use Rattle.ele_c.specs.contracts.handle.Elephant.{the_row as T}
+use Rattle.ele_c.proofs.handle.Elephant.TheLaws as laws
 use Rattle.ele_c.specs.contracts.finish as g
 use Rattle.ele_c.proofs.finish.Met.{met}
 use Rattle.ele_c.specs.contracts.elephant_delete as f

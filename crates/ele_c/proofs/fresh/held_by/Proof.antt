@@ -25,9 +25,9 @@ use Rattle.std.proofs.BoxSteps.Steps.{box_out}
 use Rattle.std.specs.contracts.alloc.Global as heap
 use Rattle.std.specs.contracts.impls.GlobalAllocator.TheImpl.{ghosts}
 use Rattle.box_parts.specs.contracts.Parts as parts
-use Rattle.ele_c_calls.specs.Given.{handle_at, closed_handle}
+use Rattle.ele_c.specs.Given.{handle_at, closed_handle}
 use Rattle.ele_c.proofs.AsHandle.{E}
-use Rattle.ele_c_calls.specs.contracts.handle.Elephant.{the_row as T}
+use Rattle.ele_c.specs.contracts.handle.Elephant.{the_row as T}
 use Rattle.ele_c.specs.contracts.fresh.Grip.{the_row as G, the_type}
 use Rattle.ele_c.specs.contracts.fresh.held_by as f
 use Rattle.ele_c.proofs.fresh.held_by.Statement.{statement}
