@@ -1,23 +1,17 @@
--- What the program may be asked for by its arguments.
-use Rattle.std.specs.Prelude.{◌≡◌, ℕ, ◌≤◌, Bool, true, false}
+-- What the program's words ask for.
+use Rattle.std.specs.Prelude.{◌≡◌, ◌≢◌, ◌⊎◌, Bool, true, false, List, [], ◌∷◌, Option, MatchBool, MatchOption, slice_get, unwrap_or, codes}
+use Rattle.std.specs.Str.{bytes_eq}
 use Rattle.ele_model.specs.Bounds.{largest_bounds}
+use Rattle.ele_invocation.specs.Program.{commands_for, program_app}
+use Rattle.ele_invocation.specs.Runs.{AsksRun, options_of}
+use Rattle.ele_invocation.specs.Storms.{AsksStorm}
+use Rattle.ele_invocation.specs.Forecasts.{AsksForecast}
+use Rattle.ele_invocation.specs.Topics.{topic_in}
 use Rattle.ele_invocation.specs.declared.invocation.Invocation.{Invocation}
 use Rattle.ele_invocation.specs.declared.invocation.Invocation.TheVariants.{Run, Storm, Forecast, Help, NotUnderstood, NoMemory}
-
--- a run answers from 1 to 1,000,000,000 events
-pub record IsEvents (events : ℕ) : Type 0 where
-  pub some : 1 ≤ events
-  pub within : events ≤ 1000000000
-
--- a run has any options, and the largest limits except that of events; a storm has a plan, with numbers in the bounds of its type;
--- a forecast has any policies and moments
-abbrev pub IsAsked : Invocation → Type 0
-IsAsked (Run limits options) = IsEvents limits.events × (limits ≡ record largest_bounds { events = limits.events })
-IsAsked (Storm plan) = Unit {0}
-IsAsked (Forecast ask) = Unit {0}
-IsAsked (Help text) = Unit {0}
-IsAsked (NotUnderstood text) = Unit {0}
-IsAsked NoMemory = Unit {0}
+use Rattle.clap.specs.Words.{App, IsAmong, Kinds, Row, Text, fault_of, subcommand_of}
+use Rattle.clap.specs.declared.error.kind.ErrorKind.{ErrorKind}
+use Rattle.clap.specs.declared.error.kind.ErrorKind.TheVariants.{DisplayHelp, DisplayVersion}
 
 -- it is a storm, which takes threads
 abbrev pub is_storm : Invocation → Bool
@@ -32,3 +26,73 @@ IsRefusal (Forecast ask) = ⊥
 IsRefusal (Help text) = ⊥
 IsRefusal (NotUnderstood text) = Unit {0}
 IsRefusal NoMemory = Unit {0}
+
+-- it is a refusal, and nothing is asked for
+abbrev pub Refuses : {X : Type 0} → (X → Type 0) → Invocation → Type 0
+Refuses {X} Asks asked = IsRefusal asked × ((x : X) → ¬ Asks x)
+
+-- the run that the matches ask for, under the largest limits but for its events; or a refusal if they ask for none
+abbrev pub IsRun : List Row → Invocation → Type 0
+IsRun rows (Run limits options) =
+    AsksRun rows limits.events × (limits ≡ record largest_bounds { events = limits.events }) × (options ≡ options_of rows)
+IsRun rows asked = Refuses (AsksRun rows) asked
+
+-- the storm that the matches ask for; or a refusal if they ask for none
+abbrev pub IsStorm : List Row → Invocation → Type 0
+IsStorm rows (Storm plan) = AsksStorm rows plan
+IsStorm rows asked = Refuses (AsksStorm rows) asked
+
+-- the forecast that the matches ask for; or a refusal if they ask for none, or there is no memory for its lists
+abbrev pub IsForecast : List Row → Invocation → Type 0
+IsForecast rows (Forecast ask) = AsksForecast rows ask
+IsForecast rows NoMemory = Unit {0}
+IsForecast rows asked = Refuses (AsksForecast rows) asked
+
+-- a text of help, or a refusal; no clause says on which topics there is help
+abbrev pub IsHelp : Invocation → Type 0
+IsHelp (Run limits options) = ⊥
+IsHelp (Storm plan) = ⊥
+IsHelp (Forecast ask) = ⊥
+IsHelp (Help text) = Unit {0}
+IsHelp (NotUnderstood text) = Unit {0}
+IsHelp NoMemory = Unit {0}
+
+-- what a command asks for by its matches
+abbrev pub IsCommand : Text → List Row → Invocation → Type 0
+IsCommand name rows asked =
+    MatchBool (bytes_eq name (codes "run")) (IsRun rows asked)
+    (MatchBool (bytes_eq name (codes "storm")) (IsStorm rows asked)
+    (MatchBool (bytes_eq name (codes "forecast")) (IsForecast rows asked)
+    (MatchBool (bytes_eq name (codes "script")) (IsHelp asked) (IsRefusal asked))))
+
+-- an error of clap: help and the version are shown, and all others refuse the words
+abbrev pub IsShown : ErrorKind → Invocation → Type 0
+IsShown kind (Help text) = (kind ≡ DisplayHelp) ⊎ (kind ≡ DisplayVersion)
+IsShown kind (NotUnderstood text) = (kind ≢ DisplayHelp) × (kind ≢ DisplayVersion)
+IsShown kind NoMemory = Unit {0}
+IsShown kind asked = ⊥
+
+-- by the kinds of error that clap may have: one of them, or if there is none what the command that it found asks for
+abbrev pub IsFound : Kinds → Option (Text × List Row) → Invocation → Type 0
+IsFound [] found asked = MatchOption found (IsRefusal asked) (λ command. IsCommand command.0 command.1 asked)
+IsFound (kind ∷ kinds) found asked = (shown : ErrorKind) × IsAmong shown (kind ∷ kinds) × IsShown shown asked
+
+-- the same, or there was no memory to read the words
+abbrev pub IsRead : Kinds → Option (Text × List Row) → Invocation → Type 0
+IsRead kinds found asked = IsFound kinds found asked ⊎ (asked ≡ NoMemory)
+
+-- the program as clap reads it for these words, of which the first is its name
+abbrev pub app_for : List Text → App
+app_for words = program_app (commands_for (unwrap_or (slice_get words 1) []))
+
+-- the kinds of error that clap has for the words: none, if it reads them
+unfoldable pub faults_in : List Text → Kinds
+faults_in words = fault_of (app_for words) words
+
+-- the command that the words name, and its matches
+unfoldable pub command_in : List Text → Option (Text × List Row)
+command_in words = subcommand_of (app_for words) words
+
+-- the words ask for the help on a topic, or for what clap reads in them
+abbrev pub IsAsked : List Text → Invocation → Type 0
+IsAsked words asked = MatchOption (topic_in words) (IsRead (faults_in words) (command_in words) asked) (λ topic. IsHelp asked)

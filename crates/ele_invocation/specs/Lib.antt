@@ -1,1 +1,9 @@
+pub mod Program
+pub mod Built
+pub mod Matches
+pub mod Runs
+pub mod Storms
+pub mod Forecasts
+pub mod Topics
+pub mod Unread
 pub mod Invocation

@@ -1,11 +1,39 @@
 //! What the program's arguments ask for.
-//! A contract sees the limits of a run, and that arguments which aren't understood ask for none.
-ghost use Rattle.ele_invocation.specs.Invocation.{IsAsked, IsRefusal};
+//! A contract sees the words as their bytes, the program as clap reads it, and what it finds in the words.
+ghost use Rattle.std.specs.Prelude.{
+  ◌≡◌,
+  IfOk,
+  MatchOption,
+  map,
+  option_map,
+  string_bytes,
+  slice_get,
+};
+ghost use Rattle.ele_invocation.specs.Built.{HasApp, HasRule, HasShape};
+ghost use Rattle.ele_invocation.specs.Invocation.{
+  IsAsked,
+  IsCommand,
+  IsRead,
+  IsRefusal,
+  IsShown,
+  command_in,
+  faults_in,
+};
+ghost use Rattle.ele_invocation.specs.Program.{
+  all_commands,
+  commands_for,
+  default_rule,
+  flag_rule,
+  option_rule,
+  program_app,
+  program_shape,
+};
+ghost use Rattle.clap.specs.Words.{found_of, kind_of, new_app, rows_of, subcommand_rows_of};
 
 use crate::forecast::{asked_forecast, forecast};
 use crate::run::{asked_run, run};
 use crate::storm::{asked_storm, storm};
-use crate::topics::{asked_help, asked_topic};
+use crate::topics::{asked_topic, topic_of};
 use clap::error::ErrorKind;
 use clap::{Arg, ArgAction, ArgMatches, Command, Error};
 use ele_model::Limits;
@@ -38,7 +66,9 @@ const NO_COMMAND: &str =
 
 const NO_WORDS: &str = "error: the words can't be read as text\n";
 
-const VERSION: &str = "0.4.0";
+const VERSION: &str = "2.1.0";
+
+const ABOUT: &str = "A file system's core that keeps earlier versions";
 
 const EXAMPLE: &str = "\
 A script is lines, and each is answered as it comes. This one saves a file, and
@@ -59,47 +89,82 @@ const SCRIPT: &str = "List the commands of scripts";
 const ALL_COMMANDS: &str = "'elephant help script' lists all commands.";
 
 /// Returns an option without a value.
-pub(crate) fn flag<'a>(alloc: Global, name: &'a str, help: &'a str) -> Arg<'a> {
+pub(crate) fn flag<'a>(alloc: Global, name: &'a str, help: &'a str) -> Arg<'a>
+    ensures { HasRule (flag_rule name.entry.now) result }
+{
     Arg::new(alloc, name)
         .long(name)
         .help(help)
         .action(ArgAction::SetTrue)
 }
 
+/// Returns an option with a value, which help calls `value`.
+pub(crate) fn option<'a>(alloc: Global, name: &'a str, value: &'a str, help: &'a str) -> Arg<'a>
+    ensures { HasRule (option_rule name.entry.now) result }
+{
+    Arg::new(alloc, name)
+        .long(name)
+        .value_name(value)
+        .help(help)
+}
+
+/// Returns an option with a number, which is this one by default.
+pub(crate) fn number<'a>(alloc: Global, name: &'a str, help: &'a str, default: &'a str) -> Arg<'a>
+    ensures { HasRule (default_rule name.entry.now default.entry.now) result }
+{
+    option(alloc, name, "N", help).default_value(default)
+}
+
+/// Returns a command with these texts in its help, and without arguments.
+pub(crate) fn command_of<'a>(
+    alloc: Global,
+    name: &'a str,
+    about: &'a str,
+    more: &'a str,
+) -> Command<'a>
+    ensures { HasShape (new_app name.entry.now).top result }
+{
+    Command::new(alloc, name).about(about).after_help(more)
+}
+
 // Returns the program without its commands.
-fn program<'a>(alloc: Global) -> Command<'a> {
-    Command::new(alloc, "elephant")
-        .about("A file system's core that keeps earlier versions")
+fn program<'a>(alloc: Global) -> Command<'a>
+    ensures { HasShape program_shape result }
+{
+    command_of(alloc, "elephant", ABOUT, EXAMPLE)
         .version(VERSION)
-        .after_help(EXAMPLE)
         .subcommand_required(true)
         .arg_required_else_help(true)
 }
 
 // Returns the program with each of its commands.
-fn whole_program<'a>(alloc: Global) -> Result<Command<'a>, AllocError> {
-    let script = Command::new(alloc, "script")
-        .about(SCRIPT)
-        .after_help(ALL_COMMANDS);
+fn whole_program<'a>(alloc: Global) -> Result<Command<'a>, AllocError>
+    ensures { IfOk result (HasApp (program_app all_commands)) }
+{
     program(alloc)
         .subcommand(run(alloc)?)?
         .subcommand(storm(alloc)?)?
         .subcommand(forecast(alloc)?)?
-        .subcommand(script)
+        .subcommand(command_of(alloc, "script", SCRIPT, ALL_COMMANDS))
 }
 
 // Returns the program as clap needs it to read these arguments. A command that comes first needs no other.
-fn command<'a>(alloc: Global, words: &[String]) -> Result<Command<'a>, AllocError> {
-    match word(words, 1) {
-        Some("run") => program(alloc).subcommand(run(alloc)?),
-        Some("storm") => program(alloc).subcommand(storm(alloc)?),
-        Some("forecast") => program(alloc).subcommand(forecast(alloc)?),
+fn command<'a>(alloc: Global, first: &str) -> Result<Command<'a>, AllocError>
+    ensures { IfOk result (HasApp (program_app (commands_for first.now))) }
+{
+    match first {
+        "run" => program(alloc).subcommand(run(alloc)?),
+        "storm" => program(alloc).subcommand(storm(alloc)?),
+        "forecast" => program(alloc).subcommand(forecast(alloc)?),
         _ => whole_program(alloc),
     }
 }
 
 /// Returns the word at a position, if there are so many.
-pub(crate) fn word(words: &[String], at: usize) -> Option<&str> {
+pub(crate) fn word(words: &[String], at: usize) -> Option<&str>
+    ensures { option_map (λ word. word.now) result
+        ≡ slice_get (map string_bytes words.now) at }
+{
     match words.get(at) {
         Some(word) => Some(word.as_str()),
         None => None,
@@ -116,47 +181,51 @@ pub(crate) fn not_understood(alloc: Global, text: &str) -> Invocation
     }
 }
 
+// Returns what a command asks for by its matches.
+fn asked_by(alloc: Global, name: &str, matches: &ArgMatches) -> Invocation
+    ensures { IsCommand name.now (rows_of (found_of matches.now)) result }
+{
+    match name {
+        "run" => asked_run(alloc, matches),
+        "storm" => asked_storm(alloc, matches),
+        "forecast" => asked_forecast(alloc, matches),
+        "script" => asked_topic(alloc, name, None),
+        _ => not_understood(alloc, NO_COMMAND),
+    }
+}
+
 // Returns what arguments ask for that clap understood.
 fn understood(alloc: Global, matches: &ArgMatches) -> Invocation
-    ensures { IsAsked result }
+    ensures { MatchOption (subcommand_rows_of matches.now) (IsRefusal result)
+        (λ command. IsCommand command.0 command.1 result) }
 {
-    if let Some(storm) = matches.subcommand_matches("storm") {
-        return asked_storm(alloc, storm);
-    }
-    if let Some(forecast) = matches.subcommand_matches("forecast") {
-        return asked_forecast(alloc, forecast);
-    }
-    if matches.subcommand_matches("script").is_some() {
-        return asked_topic(alloc, "script", None);
-    }
-    match matches.subcommand_matches("run") {
-        Some(run) => asked_run(alloc, run),
+    match matches.subcommand() {
+        Some((name, found)) => asked_by(alloc, name, found),
         None => not_understood(alloc, NO_COMMAND),
     }
 }
 
 // Returns what clap's error asks for: it is a refusal, or a text of help.
 fn refused(alloc: Global, error: &Error) -> Invocation
-    ensures { IsAsked result }
+    ensures shown { IsShown (kind_of error.now) result }
+    ensures memory { kind_of error.now ≡ ErrorKind.OutOfMemory → result ≡ Invocation.NoMemory }
 {
-    if error.kind() == ErrorKind::OutOfMemory {
+    let Ok(text) = error.to_string(alloc) else {
         return Invocation::NoMemory;
-    }
-    match error.to_string(alloc) {
-        Ok(text) if error.use_stderr() => Invocation::NotUnderstood(text),
-        Ok(text) => Invocation::Help(text),
-        Err(_) => Invocation::NoMemory,
+    };
+    match error.kind() {
+        ErrorKind::OutOfMemory => Invocation::NoMemory,
+        ErrorKind::DisplayHelp | ErrorKind::DisplayVersion => Invocation::Help(text),
+        _ => Invocation::NotUnderstood(text),
     }
 }
 
-/// Returns what the program's arguments ask for. The first of them is the program's name.
-pub fn words(alloc: Global, words: &[String]) -> Invocation
-    ensures { IsAsked result }
+// Returns what clap finds in the arguments.
+fn read_words(alloc: Global, words: &[String]) -> Invocation
+    ensures { IsRead (faults_in (map string_bytes words.now))
+        (command_in (map string_bytes words.now)) result }
 {
-    if let Some(asked) = asked_help(alloc, words) {
-        return asked;
-    }
-    let Ok(command) = command(alloc, words) else {
+    let Ok(command) = command(alloc, word(words, 1).unwrap_or("")) else {
         return Invocation::NoMemory;
     };
     match command.try_get_matches_from(words) {
@@ -167,6 +236,16 @@ pub fn words(alloc: Global, words: &[String]) -> Invocation
             invocation
         }
         Err(error) => refused(alloc, &error),
+    }
+}
+
+/// Returns what the program's arguments ask for. The first of them is the program's name.
+pub fn words(alloc: Global, words: &[String]) -> Invocation
+    ensures { IsAsked (map string_bytes words.now) result }
+{
+    match topic_of(words) {
+        Some((first, second)) => asked_topic(alloc, first, second),
+        None => read_words(alloc, words),
     }
 }
 

@@ -1,9 +1,11 @@
 //! What the program's arguments ask for, read by clap: a run, a storm, a forecast or help.
-//! A contract sees the limits of a run, and that arguments which aren't understood ask for none.
+//! A contract sees the program as clap reads it, and for each command which of its words ask for what.
 #![tactic(auto)]
 
 mod forecast;
 mod invocation;
+mod matches;
+mod reading;
 mod run;
 mod storm;
 mod topics;

@@ -1,12 +1,16 @@
 //! The arguments of a run.
-ghost use Rattle.std.specs.Prelude.{◌≡◌};
+ghost use Rattle.std.specs.Prelude.{◌≡◌, ◌⊎◌, IfOk};
 ghost use Rattle.ele_model.specs.Bounds.{largest_bounds};
-ghost use Rattle.ele_invocation.specs.Invocation.{IsEvents, IsAsked, IsRefusal};
+ghost use Rattle.ele_invocation.specs.Built.{HasShape};
+ghost use Rattle.ele_invocation.specs.Invocation.{IsRefusal, IsRun};
+ghost use Rattle.ele_invocation.specs.Program.{run_shape};
+ghost use Rattle.ele_invocation.specs.Runs.{IsEvents, options_of};
+ghost use Rattle.clap.specs.Words.{found_of, rows_of};
 
-use crate::invocation::{Invocation, flag, not_understood};
+use crate::invocation::{Invocation, command_of, flag, not_understood, number};
+use crate::matches::{is_on, number_in, value_of};
 use clap::{Arg, ArgMatches, Command};
 use ele_model::Limits;
-use ele_moment::read_number;
 use ele_run_options::RunOptions;
 use std::alloc::{AllocError, Global};
 
@@ -43,18 +47,13 @@ const FILE_GIVEN: &str =
     For more information, try 'elephant run --help'.\n";
 
 /// Returns the arguments of a run, as clap reads them.
-pub(crate) fn run<'a>(alloc: Global) -> Result<Command<'a>, AllocError> {
-    let events = Arg::new(alloc, "events")
-        .long("events")
-        .value_name("N")
-        .help(EVENTS)
-        .default_value("1000000");
+pub(crate) fn run<'a>(alloc: Global) -> Result<Command<'a>, AllocError>
+    ensures { IfOk result (HasShape run_shape) }
+{
     // A file among the arguments is refused with a hint.
     let file = Arg::new(alloc, "file").hide(true);
-    Command::new(alloc, "run")
-        .about(RUN)
-        .after_help(MORE)
-        .arg(events)?
+    command_of(alloc, "run", RUN, MORE)
+        .arg(number(alloc, "events", EVENTS, "1000000"))?
         .arg(file)?
         .arg(flag(alloc, "strict", STRICT))?
         .arg(flag(alloc, "numbers", NUMBERS))?
@@ -66,8 +65,8 @@ pub(crate) fn run<'a>(alloc: Global) -> Result<Command<'a>, AllocError> {
 fn run_with(alloc: Global, events: u64, options: RunOptions) -> Invocation
     ensures run { IsEvents events
         → result ≡ Invocation.Run (record largest_bounds { events = events }) options }
-    ensures refused { ¬ IsEvents events → IsRefusal result }
-    ensures invocation { IsAsked result }
+    ensures refused { (¬ IsEvents events) → IsRefusal result }
+    ensures either { IsEvents events ⊎ (¬ IsEvents events) }
 {
     match Limits::with_events(events) {
         Some(limits) if events > 0 => Invocation::Run(limits, options),
@@ -75,30 +74,27 @@ fn run_with(alloc: Global, events: u64, options: RunOptions) -> Invocation
     }
 }
 
-// Returns how many events a run may have. The option has a default, so its word always exists.
-fn events_in(run: &ArgMatches) -> Option<u64> {
-    read_number(run.get_str("events")?.as_bytes())
-}
-
 // Returns the options that are given.
-fn options_in(run: &ArgMatches) -> RunOptions {
+fn options_in(run: &ArgMatches) -> RunOptions
+    ensures { result ≡ options_of (rows_of (found_of run.now)) }
+{
     RunOptions {
-        strict: run.get_flag("strict"),
-        numbers: run.get_flag("numbers"),
-        remarks: run.get_flag("remarks"),
-        explain: run.get_flag("explain"),
+        strict: is_on(run, "strict"),
+        numbers: is_on(run, "numbers"),
+        remarks: is_on(run, "remarks"),
+        explain: is_on(run, "explain"),
     }
 }
 
 /// Returns what the arguments of a run ask for.
 pub(crate) fn asked_run(alloc: Global, run: &ArgMatches) -> Invocation
-    ensures { IsAsked result }
+    ensures { IsRun (rows_of (found_of run.now)) result }
 {
-    if run.contains_id("file") {
-        return not_understood(alloc, FILE_GIVEN);
-    }
-    match events_in(run) {
-        Some(events) => run_with(alloc, events, options_in(run)),
-        None => not_understood(alloc, BAD_EVENTS),
+    match value_of(run, "file") {
+        Some(_) => not_understood(alloc, FILE_GIVEN),
+        None => match number_in(run, "events") {
+            Some(events) => run_with(alloc, events, options_in(run)),
+            None => not_understood(alloc, BAD_EVENTS),
+        },
     }
 }

@@ -1,9 +1,16 @@
 //! The arguments of a storm.
-ghost use Rattle.ele_invocation.specs.Invocation.{IsAsked};
+ghost use Rattle.std.specs.Prelude.{◌≡◌, ◌≤◌, ℕ, IfNone, IfOk, IfSome, Some};
+ghost use Rattle.ele_storm_plan.specs.declared.plan.StormPlan.{StormPlan};
+ghost use Rattle.ele_invocation.specs.Built.{HasShape};
+ghost use Rattle.ele_invocation.specs.Invocation.{IsStorm};
+ghost use Rattle.ele_invocation.specs.Matches.{HasNumber};
+ghost use Rattle.ele_invocation.specs.Program.{storm_shape};
+ghost use Rattle.ele_invocation.specs.Storms.{AsksStorm};
+ghost use Rattle.clap.specs.Words.{found_of, rows_of};
 
-use crate::invocation::{Invocation, not_understood};
-use clap::{Arg, ArgMatches, Command};
-use ele_moment::read_number;
+use crate::invocation::{Invocation, command_of, not_understood, number};
+use crate::matches::number_in;
+use clap::{ArgMatches, Command};
 use ele_storm_plan::StormPlan;
 use std::alloc::{AllocError, Global};
 
@@ -18,64 +25,62 @@ due versions, the restorable names and the usage with a full scan. It prints
 Example:
   elephant storm --writers 4 --historians 2 --rounds 100";
 
+const WRITERS: &str = "Start N threads that write, from 1 to 16";
+
+const HISTORIANS: &str = "Start N threads that read, from 1 to 16";
+
+const ROUNDS: &str = "Repeat the work N times, from 1 to 1000";
+
 const BAD_PLAN: &str = "error: a storm takes 1 to 16 writers, 1 to 16 historians \
     and 1 to 1000 rounds, without a leading zero\n\n\
     For more information, try 'elephant storm --help'.\n";
 
-// Returns an option that takes a number.
-fn option<'a>(alloc: Global, name: &'a str, help: &'a str, number: &'a str) -> Arg<'a> {
-    Arg::new(alloc, name)
-        .long(name)
-        .value_name("N")
-        .help(help)
-        .default_value(number)
-}
-
 /// Returns the arguments of a storm, as clap reads them.
-pub(crate) fn storm<'a>(alloc: Global) -> Result<Command<'a>, AllocError> {
-    let writers = option(
-        alloc,
-        "writers",
-        "Start N threads that write, from 1 to 16",
-        "2",
-    );
-    let historians = option(
-        alloc,
-        "historians",
-        "Start N threads that read, from 1 to 16",
-        "1",
-    );
-    let rounds = option(
-        alloc,
-        "rounds",
-        "Repeat the work N times, from 1 to 1000",
-        "10",
-    );
-    Command::new(alloc, "storm")
-        .about(STORM)
-        .after_help(MORE)
-        .arg(writers)?
-        .arg(historians)?
-        .arg(rounds)
+pub(crate) fn storm<'a>(alloc: Global) -> Result<Command<'a>, AllocError>
+    ensures { IfOk result (HasShape storm_shape) }
+{
+    command_of(alloc, "storm", STORM, MORE)
+        .arg(number(alloc, "writers", WRITERS, "2"))?
+        .arg(number(alloc, "historians", HISTORIANS, "1"))?
+        .arg(number(alloc, "rounds", ROUNDS, "10"))
 }
 
-// Returns the number of an option. Each has a default, so its word always exists.
-fn number_in(storm: &ArgMatches, name: &str) -> Option<u32> {
-    u32::try_from(read_number(storm.get_str(name)?.as_bytes())?).ok()
+// Returns the number of an option, if a plan may have so many.
+fn count_in(storm: &ArgMatches, name: &str) -> Option<u32>
+    ensures found { IfSome result (HasNumber name.now (rows_of (found_of storm.now))) }
+    ensures only { (n : ℕ) → n ≤ 1000 → HasNumber name.now (rows_of (found_of storm.now)) n
+        → result ≡ Some n }
+{
+    let Some(number) = number_in(storm, name) else {
+        return None;
+    };
+    if number > 1000 {
+        return None;
+    }
+    Some(number as u32)
 }
 
 // Returns the plan with these numbers, if they are in range.
-fn plan_in(storm: &ArgMatches) -> Option<StormPlan> {
-    StormPlan::new(
-        number_in(storm, "writers")?,
-        number_in(storm, "historians")?,
-        number_in(storm, "rounds")?,
-    )
+fn plan_in(storm: &ArgMatches) -> Option<StormPlan>
+    ensures found { IfSome result (AsksStorm (rows_of (found_of storm.now))) }
+    ensures none { IfNone result
+        ((plan : StormPlan) → ¬ AsksStorm (rows_of (found_of storm.now)) plan) }
+{
+    let Some(writers) = count_in(storm, "writers") else {
+        return None;
+    };
+    let Some(historians) = count_in(storm, "historians") else {
+        return None;
+    };
+    let Some(rounds) = count_in(storm, "rounds") else {
+        return None;
+    };
+    StormPlan::new(writers, historians, rounds)
 }
 
 /// Returns what the arguments of a storm ask for.
 pub(crate) fn asked_storm(alloc: Global, storm: &ArgMatches) -> Invocation
-    ensures { IsAsked result }
+    ensures { IsStorm (rows_of (found_of storm.now)) result }
 {
     match plan_in(storm) {
         Some(plan) => Invocation::Storm(plan),

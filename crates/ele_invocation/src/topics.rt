@@ -1,6 +1,7 @@
 //! `elephant help TOPIC`, which clap knows nothing of.
-ghost use Rattle.std.specs.Prelude.{IfSome};
-ghost use Rattle.ele_invocation.specs.Invocation.{IsAsked};
+ghost use Rattle.std.specs.Prelude.{◌≡◌, map, option_map, string_bytes};
+ghost use Rattle.ele_invocation.specs.Invocation.{IsHelp};
+ghost use Rattle.ele_invocation.specs.Topics.{is_left_to_clap, topic_in};
 
 use crate::invocation::{Invocation, not_understood, word};
 use ele_help::topic_help;
@@ -12,7 +13,9 @@ const NO_TOPIC: &str = "error: there is no help on this topic\n\n\
     For more information, try 'elephant help' and 'elephant help script'.\n";
 
 // Whether clap has the help on a word of the program.
-fn is_left_to_clap(first: &str) -> bool {
+fn is_left_to_clap(first: &str) -> bool
+    ensures { result ≡ is_left_to_clap first.now }
+{
     matches!(
         first,
         "run" | "storm" | "forecast" | "help" | "--help" | "-h"
@@ -21,7 +24,7 @@ fn is_left_to_clap(first: &str) -> bool {
 
 /// Returns the help on a topic or a command, or a refusal if there is none.
 pub(crate) fn asked_topic(alloc: Global, first: &str, second: Option<&str>) -> Invocation
-    ensures { IsAsked result }
+    ensures { IsHelp result }
 {
     match topic_help(alloc, first, second) {
         Ok(text) if text.is_empty() => not_understood(alloc, NO_TOPIC),
@@ -30,16 +33,19 @@ pub(crate) fn asked_topic(alloc: Global, first: &str, second: Option<&str>) -> I
     }
 }
 
-/// Returns what the program's words ask for, if they are `help` and a topic. `None` leaves them to clap.
-pub(crate) fn asked_help(alloc: Global, words: &[String]) -> Option<Invocation>
-    ensures { IfSome result (λ asked. IsAsked asked) }
+/// Returns the topic of the words `help TOPIC` and the word after it. `None` leaves the words to clap.
+pub(crate) fn topic_of(words: &[String]) -> Option<(&str, Option<&str>)>
+    ensures { option_map (λ topic. (topic.0.now, option_map (λ word. word.now) topic.1)) result
+        ≡ topic_in (map string_bytes words.now) }
 {
-    if words.len() > 4 || word(words, 1)? != "help" {
+    if words.len() > 4 || word(words, 1) != Some("help") {
         return None;
     }
-    let first = word(words, 2)?;
+    let Some(first) = word(words, 2) else {
+        return None;
+    };
     if is_left_to_clap(first) {
         return None;
     }
-    Some(asked_topic(alloc, first, word(words, 3)))
+    Some((first, word(words, 3)))
 }

@@ -3,8 +3,6 @@
 //! forecast` reads when a file closed, and prints what becomes of its versions.
 #![tactic(auto)]
 
-ghost use Rattle.ele_invocation.specs.Invocation.{IsAsked};
-
 use ele_core::Core;
 use ele_output::Printer;
 use ele_words::{
@@ -17,9 +15,7 @@ const GREETING: &str = "elephant: each line is answered as it comes, and Ctrl-D 
     'elephant help script' tells the commands\n";
 
 // What the arguments ask for.
-fn asked_for(rt: &HostRuntime) -> Invocation
-    ensures { IsAsked result }
-{
+fn asked_for(rt: &HostRuntime) -> Invocation {
     match std::env::args(rt) {
         Ok(arguments) => match arguments.collect::<Vec<String>>(rt.alloc()) {
             Ok(arguments) => words(rt.alloc(), arguments.as_slice()),

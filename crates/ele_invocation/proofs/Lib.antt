@@ -1,0 +1,5 @@
+pub mod Builders
+pub mod Simple
+pub mod OfClap
+pub mod Spelled
+pub mod Asked

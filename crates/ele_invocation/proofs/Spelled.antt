@@ -1,0 +1,55 @@
+-- Words one after another, and what each spells.
+use Rattle.std.proofs.Common.{◌≡◌, ◌<◌, ◌∙◌, Bor, option_map, unwrap_or, ℕ, zero, suc, List, [], ◌∷◌, length, get_or, map, Option, Result, Ok, Err, Some, None, is_some, MatchBool, is_ok, IfNone, ap, sym, true, arith}
+use Rattle.std.specs.List.{AllZip}
+use Rattle.std.proofs.lemmas.Bool.{false≢true}
+use Rattle.std.proofs.lemmas.Option.{same_Some}
+use Rattle.ele_outlook.specs.declared.options.Form.{Form}
+use Rattle.ele_outlook.specs.declared.options.Form.TheVariants.{Table, Drawing, Due, Kept, Json, Csv, Every}
+use Rattle.ele_policy.specs.declared.policy.Policy.{Policy}
+use Rattle.ele_printer.specs.declared.fault.LineFault.{LineFault}
+use Rattle.ele_script.specs.PolicyWord.{ReadsPolicy}
+use Rattle.ele_tool_words.specs.Length.{SpellsLength}
+use Rattle.ele_invocation.specs.Forecasts.{IsForeign, IsOverTime, IsPlain}
+use Rattle.ele_invocation.specs.Unread.{NoneAsks}
+use Rattle.ele_invocation.specs.declared.reading.Unread.{Unread}
+use Rattle.ele_invocation.specs.declared.reading.Unread.TheVariants.{Because, NoMemory}
+
+-- a word that spells nothing
+pub none_zips : {A B C : Type 0} (f : C → A) (R : A → B → Type 0) (xs : List C) (ys : List B) (i : ℕ) (d : C) → i < length xs → ((y : B) → ¬ R (f (get_or xs i d)) y) → ¬ AllZip R (map f xs) ys
+none_zips f R [] ys i d lt bad all = absurd (omega (arith, lt))
+none_zips f R (w ∷ xs) [] i d lt bad all = all
+none_zips f R (w ∷ xs) (y ∷ ys) zero d lt bad all = bad y all.0
+none_zips f R (w ∷ xs) (y ∷ ys) (suc i) d lt bad all = none_zips f R xs ys i d (omega (arith, lt)) bad all.1
+
+-- what a script reads in a word
+pub read_or_not : (word : List ℕ) (r : Result Policy LineFault) → ReadsPolicy word r → MatchBool (is_ok r) (IsPlain word) (IsForeign word)
+read_or_not word (Ok policy) reads = (policy, reads)
+read_or_not word (Err fault) reads = (fault, reads)
+
+-- the only length that a word spells gives the only form
+pub only_form : (word : List ℕ) (step : ℕ) (form : Form) → ((n : ℕ) → SpellsLength word n → ◌≡◌ {A = Option ℕ} (Some step) (Some n)) → IsOverTime word form → ◌≡◌ {A = Result Form Unread} (Ok (Every step)) (Ok form)
+only_form word step Table only is = absurd is
+only_form word step Drawing only is = absurd is
+only_form word step Due only is = absurd is
+only_form word step Kept only is = absurd is
+only_form word step Json only is = absurd is
+only_form word step Csv only is = absurd is
+only_form word step (Every n) only is = ap (λ (m : ℕ). Ok (Every m)) (same_Some step n (only n is.0))
+
+-- there is no value, if it leads to nothing
+pub if_none : {T : Type 0} (o : Option T) (Q : Type 0) → ((is_some o ≡ true → ⊥) → Q) → IfNone o Q
+if_none None Q f = f (λ e. absurd (false≢true e))
+if_none (Some x) Q f = tt
+
+-- what asks for more is asked for no more
+pub none_weaker : {X Y : Type 0} (P : X → Type 0) (Q : Y → Type 0) (why : Unread) → ((y : Y) → Q y → (x : X) × P x) → NoneAsks P why → NoneAsks Q why
+none_weaker P Q (Because text) f none = λ y q. none (f y q).0 (f y q).1
+none_weaker P Q NoMemory f none = tt
+
+-- the values of an option, or none
+pub values_are : (o : Option (Bor (List (Bor (List ℕ))))) (d r : Bor (List (Bor (List ℕ)))) (got : Option (List (List ℕ))) → option_map (λ v. map (λ (w : Bor (List ℕ)). w.now) v.now) o ≡ got
+    → r ≡ unwrap_or o d → d.now ≡ [] → unwrap_or got [] ≡ map (λ (w : Bor (List ℕ)). w.now) r.now
+values_are None d r got e f n =
+    ap (λ (g : Option (List (List ℕ))). unwrap_or g []) (sym e) ∙ sym (ap (λ (b : Bor (List (Bor (List ℕ)))). map (λ (w : Bor (List ℕ)). w.now) b.now) f ∙ ap (map (λ (w : Bor (List ℕ)). w.now)) n)
+values_are (Some v) d r got e f n =
+    ap (λ (g : Option (List (List ℕ))). unwrap_or g []) (sym e) ∙ sym (ap (λ (b : Bor (List (Bor (List ℕ)))). map (λ (w : Bor (List ℕ)). w.now) b.now) f)
