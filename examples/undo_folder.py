@@ -6,7 +6,7 @@
     undo_folder.py FOLDER list [FILE]            the documents, or the versions of one
     undo_folder.py FOLDER restore FILE MOMENT    write back what it held: 2026-11-28T10:30:00, seconds, or #VERSION
     undo_folder.py FOLDER mark NAME              keep what all documents hold now, for good
-    undo_folder.py FOLDER forget [much]          remove the versions that may go: of the last day none, then more and more
+    undo_folder.py FOLDER forget [much]          remove what may go: of the last day none, then more and more; much: at once
 
 The store is the journal FOLDER/.undo. Documents of more than 1 MiB and hidden files are left out. `watch` opens the store only to keep
 what changed, so that the other commands work beside it. It needs Python 3.10.
@@ -120,7 +120,7 @@ def mark(folder: Path, name: str) -> None:
 
 def forget(folder: Path, much: bool = False) -> None:
     with open_store(folder) as store:
-        print(f"removed {store.pass_(confirm=much).removed} versions")
+        print(f"removed {store.pass_(confirm=much).removed} versions; {store.waiting.versions} more wait")
 
 
 def main(words: list[str]) -> None:

@@ -10,6 +10,7 @@ from pathlib import Path
 from zlib import crc32
 
 from mount.mounts import Counts, Mounted
+from mount.programs import next_second
 
 WORKER = Path(__file__).resolve().parent / "worker.py"
 
@@ -180,8 +181,9 @@ def journal_made_anew(room: str, asked: argparse.Namespace) -> Counts:
             (mounted.folder / "kept").write_bytes(os.urandom(3_000))
             if number == 3:
                 mounted.ask("policy", "/kept", "all")
+        _save_parts(mounted)
         mounted.ask("clean all")
-        before = _everything(mounted.folder)
+        before, usage = _everything(mounted.folder), _usage(mounted)
         answer = mounted.ask("rewrite").split()
         if answer[:2] != ["ok", "journal"] or int(answer[3]) * 2 > int(answer[2]):
             wrong.append(f"rewrite says {answer}")
@@ -194,9 +196,35 @@ def journal_made_anew(room: str, asked: argparse.Namespace) -> Counts:
         mounted.start()
         if {**_everything(mounted.folder), ".elephant/versions/after/1": b""} != before:
             wrong.append("the folder differs when it is mounted again")
+        (mounted.folder / "after").unlink()
+        mounted.ask("clean all")
+        now = _usage(mounted)
+        if now[0] != usage[0] or now[1] > usage[1]:
+            wrong.append(f"usage is {now} then, and was {usage}")
     for fault in wrong:
         print(f"mount: journal: {fault}")
-    return 3, len(wrong)
+    return 4, len(wrong)
+
+
+def _usage(mounted: Mounted) -> tuple[list[list[str]], int]:
+    """Returns what each kind of policy has, and how many blocks all of them have. A new journal may share more."""
+    rows = [row.split() for row in mounted.ask("usage").splitlines()[1:]]
+    return [row[:-1] for row in rows], sum(int(row[-1]) for row in rows)
+
+
+def _save_parts(mounted: Mounted) -> None:
+    """Saves parts of a file, so that its first version, which is marked, and its last one share the rest."""
+    file = mounted.folder / "shared"
+    file.write_bytes(os.urandom(40_000))
+    mounted.ask("group", "make", "g")
+    mounted.ask("group", "add", "g", "/shared")
+    moment = next_second()
+    for place in (0, 12_000, 39_000):
+        with open(file, "r+b") as part:
+            part.seek(place)
+            part.write(b"new")
+    next_second()
+    mounted.ask("mark", "g", str(moment))
 
 
 def _everything(folder: Path) -> dict[str, bytes]:

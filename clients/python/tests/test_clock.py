@@ -11,7 +11,7 @@ from unittest import mock
 
 import elephant
 from clocks import DAY, START, FalseClocks
-from elephant import DirectoryStat, KeepAll, KeepOne, KeepSafe, Pass, Store
+from elephant import DirectoryStat, KeepSafe, Moment, Store, Waiting
 from elephant._clock import TOLERANCE, VARIABLE, ShiftedClocks, Watch, clocks_of_system, span
 from elephant._policies import LADDER
 from elephant._turns import Clock
@@ -139,6 +139,13 @@ class Case(unittest.TestCase):
         store.unlink("/g")
         return store
 
+    def pass_by(self, store: Store, seconds: int) -> None:
+        """Time passes, and each half hour somebody calls the store."""
+        while seconds > 0:
+            self.clock.pass_by(min(seconds, 1800))
+            seconds -= 1800
+            self.assertGreater(int(store.now), 0)
+
     def held(self, store: Store) -> tuple[list[int], list[str]]:
         return [it.number for it in store.versions("/f")], [it.name for it in store.restorable()]
 
@@ -188,12 +195,14 @@ class Stores(Case):
         with self.assertRaisesRegex(elephant.ClockDoubt, "jumped back by 20 days"):
             store.pass_()
         self.clock.set_by(20 * DAY)
-        self.assertEqual(store.pass_().removed, 5)
+        self.assertEqual(store.pass_(confirm=True).removed, 5)
 
     def test_time_that_really_passed_removes_what_is_due(self) -> None:
         store = self.filled()
-        self.clock.pass_by(8 * DAY)
-        self.assertEqual((store.pass_().removed, self.held(store)), (5, ([4], [])))
+        self.pass_by(store, 8 * DAY)
+        self.assertEqual((store.pass_().removed, self.held(store)), (4, ([4], ["g"])))
+        self.pass_by(store, DAY)
+        self.assertEqual((store.pass_().removed, self.held(store)), (1, ([4], [])))
 
     def test_a_store_that_is_ahead_of_the_time_of_day_removes_only_what_both_make_due(self) -> None:
         store = self.filled()
@@ -211,13 +220,15 @@ class Stores(Case):
         with self.assertRaises(elephant.ClockDoubt):
             store.line("pass 9")
         self.clock.pass_by(8 * DAY)
-        self.assertEqual((store.pass_().removed, self.held(store)), (5, ([4], [])))
+        self.assertEqual((store.pass_(confirm=True).removed, self.held(store)), (5, ([4], [])))
 
     def test_a_user_who_says_that_the_time_is_right_gets_it(self) -> None:
         store = self.filled()
         self.clock.set_by(30 * DAY)
         store.trust_clock()
         self.assertEqual((store.clock_fault, int(store.now)), ("", START + 30 * DAY + 30))
+        self.assertEqual((store.pass_().removed, store.waiting), (0, Waiting(5, Moment(START + 31 * DAY + 30))))
+        self.pass_by(store, DAY)
         self.assertEqual(store.pass_().removed, 5)
 
     def test_a_manual_clock_is_never_in_doubt(self) -> None:
@@ -275,67 +286,6 @@ class FirstPolicy(Case):
         store.pass_()
         store.undelete("/deleted")
         self.assertEqual(store.read("/deleted"), b"last")
-
-
-class Much(Case):
-    """A removal of much is asked for twice."""
-
-    def many(self, count: int, has_journal: bool = True) -> Store:
-        """A store with a file that was saved so many times, all of which may be removed but the last save."""
-        store = self.store() if has_journal else Store(clock=self.clock)
-        self.addCleanup(store.close)
-        store.set_default("/", KeepSafe(days=7))
-        store.create("/f")
-        for number in range(count):
-            store.save("/f", b"%d" % number)
-        self.clock.pass_by(8 * DAY)
-        return store
-
-    def test_more_than_a_hundred_and_a_fifth_have_to_be_confirmed(self) -> None:
-        store = self.many(101)
-        removals: list[Callable[[], object]] = [store.pass_, lambda: store.pass_(101)]
-        for remove in removals:
-            with self.assertRaisesRegex(elephant.MassRemoval, r"would remove 101 of 102 versions; .* pass_\(confirm=True\)") as caught:
-                remove()
-            self.assertEqual((caught.exception.count, caught.exception.held), (101, 102))
-        self.assertEqual(len(store.versions("/f")), 102)
-        self.assertEqual((store.pass_(confirm=True), len(store.versions("/f"))), (Pass(101, True), 1))
-
-    def test_a_hundred_need_no_second_question(self) -> None:
-        self.assertEqual(self.many(100).pass_(), Pass(100, True))
-
-    def test_a_budget_of_a_hundred_needs_none(self) -> None:
-        self.assertEqual(self.many(300).pass_(100), Pass(100, False))
-
-    def test_a_fifth_of_all_needs_none(self) -> None:
-        store = self.many(110)
-        store.set_default("/", KeepAll())
-        store.create("/kept")
-        for number in range(437):
-            store.save("/kept", b"%d" % number)
-        with self.assertRaises(elephant.MassRemoval):  # 110 of 549 are more than a fifth
-            store.pass_()
-        store.save("/kept", b"the 550th version")
-        self.assertEqual(store.pass_().removed, 110)
-
-    def test_a_date_that_is_ahead_at_the_opening_does_not_remove_the_past(self) -> None:
-        self.many(150).close()
-        store = self.store(FalseClocks(START + 60 * DAY))
-        with self.assertRaises(elephant.MassRemoval):
-            store.pass_()
-        self.assertEqual(len(store.versions("/f")), 151)
-
-    def test_a_store_without_a_journal_or_with_a_clock_of_its_own_is_never_asked(self) -> None:
-        self.assertEqual(self.many(150, has_journal=False).pass_(), Pass(150, True))
-        store = self.store("manual")
-        store.set_default("/", KeepOne())
-        store.create("/f")
-        for number in range(150):
-            store.save("/f", b"%d" % number)
-        self.assertEqual(store.pass_(), Pass(150, True))
-
-    def test_a_line_of_the_script_language_is_never_asked(self) -> None:
-        self.assertEqual(self.many(150).line("pass 1000"), "ok pass finished 150\n")
 
 
 if __name__ == "__main__":

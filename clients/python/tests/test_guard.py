@@ -6,12 +6,10 @@ import unittest
 from collections.abc import Iterable, Sequence
 from typing import Optional
 
-from elephant import Removable
-from elephant._moments import Moment
-from elephant.keeping import MANY
-from elephant.mount.guard import DAY, MOST_REMARK, SETTLE, Announced, Decision, Guard, Name, named
+from elephant import Moment, Removable
+from elephant._guard import DAY, MANY, MOST_REMARK, SETTLE, Announced, Decision, Gaps, Guard, VersionName, named
 
-START = 1_795_942_800
+START, HOUR = 1_795_942_800, 3600
 
 
 def due(file: int, *numbers: int, since: int = START - 10) -> list[Removable]:
@@ -21,10 +19,13 @@ def due(file: int, *numbers: int, since: int = START - 10) -> list[Removable]:
 class Times:
     """A guard, and the time that passes."""
 
-    def __init__(self, off: int = 60, announced: Optional[Announced] = None, now: int = START) -> None:
+    def __init__(
+        self, off: int = 60, announced: Optional[Announced] = None, now: int = START, found: Optional[Announced] = None,
+        missed_until: int = 0,
+    ) -> None:
         self.remarks: list[bytes] = []
-        self.now, self.steady = now, 77.0
-        self.guard = Guard(announced or Announced(), now, self.steady, now - off)
+        self.now, self.steady, self.found = now, 77.0, found
+        self.guard = Guard(announced or Announced(), now, self.steady, now - off, missed_until, found)
 
     def pass_by(self, seconds: int, step: int = 1800) -> None:
         """Time passes while somebody looks, at least each half hour."""
@@ -33,11 +34,13 @@ class Times:
             self.guard.look(self.now, self.steady)
             seconds -= step
 
-    def decide(self, keys: Sequence[Removable], held: int = 10_000, last: Iterable[Name] = ()) -> Decision:
+    def decide(self, keys: Sequence[Removable], held: int = 10_000, last: Iterable[VersionName] = ()) -> Decision:
         """Decides, and keeps what is announced."""
         self.guard.look(self.now, self.steady)
         found = self.guard.decide(self.now, keys, held, set(last))
         self.remarks = self.guard.announced.add(self.now, [named(key) for key in found.announce])
+        if self.found is not None:
+            self.remarks += self.found.add(self.now, [named(key) for key in found.found])
         return found
 
 
@@ -47,7 +50,7 @@ class Settling(unittest.TestCase):
         it.pass_by(599)
         self.assertEqual(it.decide(keys).may_go, set())
         it.pass_by(1)
-        self.assertEqual(it.decide(keys), ({(1, 1), (1, 2)}, [], {}))
+        self.assertEqual(it.decide(keys)[:3], ({(1, 1), (1, 2)}, [], {}))
 
     def test_nothing_goes_within_ten_minutes_of_a_gap(self) -> None:
         it = Times()
@@ -66,6 +69,41 @@ class Settling(unittest.TestCase):
         self.assertEqual(it.decide(due(1, 1)).may_go, {(1, 1)})
 
 
+class Brief(unittest.TestCase):
+    """Openings that may be shorter than ten minutes."""
+
+    def test_the_first_ten_minutes_announce_and_let_nothing_go(self) -> None:
+        it, keys = Times(found=Announced(b"found")), due(1, 1, 2)
+        it.pass_by(100)
+        found = it.decide(keys)
+        self.assertEqual((found.may_go, found.announce, found.found), (set(), [], keys))
+        self.assertEqual((set(found.waits.values()), it.remarks), ({START + SETTLE}, [b"# found %d 1:1-2" % (START + 100)]))
+        it.pass_by(499)
+        self.assertEqual(it.decide(keys).may_go, set())
+        it.pass_by(1)
+        self.assertEqual(it.decide(keys).may_go, {(1, 1), (1, 2)})
+
+    def test_what_an_opening_announced_ten_minutes_ago_goes_in_a_later_one(self) -> None:
+        found, keys = Announced(b"found"), due(1, 1)
+        Times(found=found).decide(keys)
+        for seconds, may_go in ((SETTLE - 1, set()), (SETTLE, {(1, 1)})):
+            self.assertEqual(Times(now=START + seconds, found=found).decide(keys + due(1, 2)).may_go, may_go)
+
+    def test_what_became_due_in_a_week_off_waits_for_a_day_all_the_same(self) -> None:
+        kept, found, keys = Announced(), Announced(b"found"), due(1, 1)
+        Times(7 * DAY, kept, found=found).decide(keys)
+        for seconds, may_go in ((HOUR, set()), (DAY - 1, {(2, 7)}), (DAY, {(1, 1), (2, 7)})):
+            self.assertEqual(Times(HOUR, kept, START + seconds, found).decide(keys + due(2, 7)).may_go, may_go)
+
+    def test_who_asks_rarely_is_asked_twice_whatever_made_so_much_due(self) -> None:
+        for step, is_much in ((HOUR // 2, False), (2 * HOUR, True)):
+            it = Times(found=Announced(b"found"))
+            it.pass_by(2 * HOUR, step=HOUR // 2)
+            it.decide([])
+            it.pass_by(step, step=HOUR // 2)
+            self.assertEqual(it.decide(due(1, *range(1, 500), since=it.now - 5), held=500).is_much, is_much)
+
+
 class Much(unittest.TestCase):
     def setUp(self) -> None:
         self.it = Times()
@@ -78,7 +116,7 @@ class Much(unittest.TestCase):
     def test_more_waits_until_it_was_announced_for_a_day(self) -> None:
         keys = due(1, *range(1, 202))
         found = self.it.decide(keys, held=1000)
-        self.assertEqual((found.may_go, found.announce), (set(), keys))
+        self.assertEqual((found.may_go, found.announce, found.is_much), (set(), keys, True))
         self.assertEqual(set(found.waits.values()), {self.it.now + DAY})
         self.it.pass_by(DAY - 1)
         self.assertEqual(self.it.decide(keys, held=1000)[:2], (set(), []))
@@ -105,7 +143,7 @@ class Much(unittest.TestCase):
         self.assertEqual((self.it.decide(keys, held=500).may_go, len(self.it.decide(keys, held=500).waits)), (set(), 499))
 
 
-class Gaps(unittest.TestCase):
+class LongGaps(unittest.TestCase):
     def test_after_a_week_off_even_one_version_waits_for_a_day(self) -> None:
         it, keys = Times(off=7 * DAY), due(1, 1)
         it.pass_by(SETTLE)
@@ -144,6 +182,19 @@ class Gaps(unittest.TestCase):
         it.pass_by(600)
         self.assertEqual(it.decide(due(1, 1) + due(2, 1, since=it.now - 5)).may_go, {(2, 1)})
 
+    def test_a_gap_before_the_last_change_counts_too(self) -> None:
+        """An opening of some seconds, which saved something, ended the gap before anything was announced."""
+        it, keys = Times(off=60, missed_until=START - 60), due(1, 1, since=START - DAY) + due(2, 1, since=START - 30)
+        it.pass_by(SETTLE)
+        self.assertEqual(it.decide(keys)[:2], ({(2, 1)}, keys[:1]))
+
+    def test_the_gaps_of_a_journal(self) -> None:
+        gaps, found = Gaps(), []
+        for moment in (START, START + DAY - 1, START + 2 * DAY - 1, START + 2 * DAY, START + 9 * DAY, START + 9 * DAY + 5):
+            gaps.note(moment)
+            found.append(gaps.last_end - START)
+        self.assertEqual(found, [0, 0, 2 * DAY - 1, 2 * DAY - 1, 9 * DAY, 9 * DAY])
+
 
 class Deleted(unittest.TestCase):
     def test_the_last_version_of_a_deleted_file_waits_however_few_there_are(self) -> None:
@@ -153,7 +204,7 @@ class Deleted(unittest.TestCase):
         it.pass_by(60)
         keys = due(1, 1, 2, since=it.now - 5)
         found = it.decide(keys, last={(1, 2)})
-        self.assertEqual((found.may_go, found.announce, found.waits), ({(1, 1)}, keys[1:], {(1, 2): it.now + DAY}))
+        self.assertEqual(found, ({(1, 1)}, keys[1:], {(1, 2): it.now + DAY}, False, []))
         it.pass_by(DAY)
         self.assertEqual(it.decide(keys, last={(1, 2)}).may_go, {(1, 1), (1, 2)})
 
@@ -171,6 +222,15 @@ class Remembering(unittest.TestCase):
         second.pass_by(SETTLE)
         self.assertEqual(len(second.decide(keys).may_go), 7)
         self.assertEqual(kept.remarks(), [b"# due %d 1:1-5,9 2:7" % START])
+
+    def test_a_short_opening_in_that_day_ends_no_wait(self) -> None:
+        """The announcement is a change of the journal, so the opening after it sees no long gap."""
+        kept, keys = Announced(), due(1, 1, 2, since=START - 3 * DAY)
+        Times(off=7 * DAY, announced=kept).decide(keys)
+        for hours, may_go in ((1, set()), (23, set()), (24, {(1, 1), (1, 2)})):
+            it = Times(off=HOUR, announced=kept, now=START + hours * HOUR - SETTLE)
+            it.pass_by(SETTLE)
+            self.assertEqual(it.decide(keys).may_go, may_go)
 
     def test_what_is_not_due_any_more_is_dropped(self) -> None:
         kept = Announced()
@@ -202,9 +262,19 @@ class Remembering(unittest.TestCase):
 
     def test_remarks_of_other_programs_are_passed_over(self) -> None:
         kept = Announced()
-        for remark in (b"due", b"due x 1:1", b"due 5 1", b"due 5 a:b", b"undue", b"undue 9:9", b"dues 1 1:1"):
+        for remark in (b"due", b"due x 1:1", b"due 5 1", b"due 5 a:b", b"undue", b"undue 9:9", b"dues 1 1:1", b"due 5 1:9-3"):
             kept.apply(remark.split(b" "))
         self.assertEqual(kept.since, {})
+
+    def test_more_versions_than_a_store_makes_are_passed_over(self) -> None:
+        kept = Announced()
+        many = b" ".join(b"%d:1-900000" % it for it in range(500))
+        for remark in (b"due 5 1:1-99999999999999999999", b"due 5 " + many, b"undue 1:1-9" + b"0" * 50):
+            kept.apply(remark.split(b" "))
+        self.assertEqual(kept.since, {})
+        kept.apply(b"due 5 1:1-600000".split(b" "))
+        kept.apply(b"due 5 2:1-600000".split(b" "))
+        self.assertEqual(len(kept.since), 600_000)
 
 
 if __name__ == "__main__":

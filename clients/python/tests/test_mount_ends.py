@@ -20,11 +20,12 @@ from elephant._errors import LIMIT_NAMES
 from elephant.keeping import Core, Journal, changes_in, write_lines
 from elephant.mount import drafts, memory
 from elephant.mount.ages import Ages
+from elephant.mount.comparing import Side, compare
 from elephant.mount.contents import MOST_BYTES, Limited
 from elephant.mount.counts import Counts
 from elephant.mount.moving import everything_of, move
 from elephant.mount.naming import EXCHANGE
-from elephant.mount.shorter import shorten
+from elephant.mount.shorter import Census, shorten
 from elephant.mount.store import MountStore
 from elephant.mount.tree import Directory, File, Tree
 from elephant.mount.undo import Undo
@@ -472,29 +473,29 @@ class Anew(Case):
 
     def test_each_difference_is_found(self) -> None:
         """Journals that differ in one thing, of each kind that a new journal has to keep."""
-        from elephant.mount.comparing import Side, compare
-        from elephant.mount.records import Records
-        from elephant.mount.witness import Witness
-
         base = [
             "clock 5", "mkdir /d", "create /d/f", "open write /d/f", "write 1 0 6f6e65", "close 1", "clock 9", "create /g", "open write /g",
             "write 2 0 74776f", "close 2", "clock 12", "unlink /g", "group make a", "group add a /d/f", "clock 20", "mark a 9", "clock 30",
         ]
 
-        def side(lines: list[str], remarks: Iterable[bytes] = ()) -> Side:
-            witness = Witness(Core(Limits(), False), Records(), Counts(Limits()))
-            witness.run([it.encode() for it in lines])
+        def compared(lines: list[str], others: list[str], remarks: Iterable[bytes] = (), of_other: Iterable[bytes] = ()) -> None:
+            old, new = counted(lines, remarks), counted(others, of_other)
+            left, right = (Side(it.core, it.records, it.counts, it) for it in (old, new))
+            compare(left, right, old, new)
+
+        def counted(lines: list[str], remarks: Iterable[bytes]) -> Census:
+            census = Census(Core(Limits(), False))
+            census.run([it.encode() for it in lines])
             for it in remarks:
-                witness.remark(it)
-            return Side(witness.core, witness.records, witness.counts, witness)
+                census.remark(it)
+            return census
 
         def without(line: str) -> list[str]:
             found = [it for it in base if it != line]
             return found
 
-        changes = {(5, b"/d"), (5, b"/d/f"), (9, b"/g"), (12, b"/g")}
         attributes = [b"attr f1 100644 1 2 3 4 5"]
-        compare(side(base, attributes), side(base, attributes), changes)
+        compared(base, base, attributes, attributes)
         others = {
             "a deleted name": without("unlink /g"), "a number": [*base[:-1], "create /x", "unlink /x", base[-1]],
             "a group": without("group add a /d/f"),
@@ -504,13 +505,13 @@ class Anew(Case):
         }
         for what, lines in others.items():
             with self.subTest(what), self.assertRaises(JournalError):
-                compare(side(base), side(lines), changes)
+                compared(base, lines)
         differing: list[list[bytes]] = [
             [b"attr f1 100600 1 2 3 4 5"], [*attributes, b"xattr f1 5 757365722e61 =31"], [b"attr f1 100644 1 2 3 9 5"],
         ]
         for other in differing:
             with self.assertRaises(JournalError):
-                compare(side(base, attributes), side(base, other), changes)
+                compared(base, base, attributes, other)
 
 
 class Moves(Case):

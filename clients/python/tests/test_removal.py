@@ -14,9 +14,9 @@ except ImportError:
 
 import elephant
 from clocks import DAY, START, FalseClocks
+from elephant._guard import SETTLE
 from elephant.mount.cleaning import Cleaner
 from elephant.mount.control import Lines
-from elephant.mount.guard import SETTLE
 from elephant.mount.log import Log, local
 from elephant.mount.operations import Operations
 from elephant.mount.shorter import shorten
@@ -230,6 +230,32 @@ class Waits(Case):
         for journal in (self.journal, new):
             self.mount(journal=journal)
             self.assertEqual((self.pass_by(SETTLE - 60), self.pass_by(120), self.held()), (0, 5, ([4], [])))
+
+    def test_a_mount_of_some_seconds_after_a_week_off_ends_no_wait(self) -> None:
+        """It saves something before anything is announced, and the next mount sees no long gap before itself."""
+        self.filled()
+        self.end()
+        self.clocks.pass_by(8 * DAY)
+        self.mount()
+        self.save(b"new", b"new")
+        self.end()
+        self.clocks.pass_by(60)
+        self.mount()
+        self.assertEqual((self.pass_by(DAY - HOUR), self.held()), (0, self.ALL))
+        self.assertEqual((self.pass_by(2 * HOUR), self.held()), (5, ([4], [])))
+
+    def test_a_mount_within_the_day_ends_no_wait(self) -> None:
+        """The announcement is a change of the journal, so the next mount sees no long gap."""
+        self.filled()
+        self.end()
+        self.clocks.pass_by(8 * DAY)
+        for _ in range(10):
+            self.mount()
+            self.assertEqual((self.pass_by(HOUR), self.held()), (0, self.ALL))
+            self.end()
+            self.clocks.pass_by(HOUR)
+        self.mount()
+        self.assertEqual((self.pass_by(6 * HOUR), self.held()), (5, ([4], [])))
 
     def test_a_user_who_asks_for_it_gets_it_at_once(self) -> None:
         self.filled()

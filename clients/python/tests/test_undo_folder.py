@@ -84,7 +84,7 @@ class UndoFolder(unittest.TestCase):
         self.assertEqual(readme.read_text(), "a mistake")
         self.assertIn("14 NoVersion", self.run_tool("restore", "README.md", "#9", status=1))
         self.assertIn("5 NoEntry", self.run_tool("restore", "never", saved, status=1))
-        self.assertEqual(self.run_tool("forget"), "removed 0 versions\n")
+        self.assertEqual(self.run_tool("forget"), "removed 0 versions; 0 more wait\n")
         self.assertRegex(self.run_tool("mark", "before the talk"), "^marked before the talk at ")
         readme.unlink()
         readme.mkdir()
@@ -109,8 +109,10 @@ class UndoFolder(unittest.TestCase):
             clock[0] += 86_400 + 3600
             with redirect_stdout(io.StringIO()) as told:
                 tool.forget(self.folder)
-            # Of each of the four documents the empty version; of the note also the first and the third content.
-            self.assertEqual(told.getvalue(), "removed 7 versions\n")
+                clock[0] += 86_400
+                tool.forget(self.folder)
+            # Of each of the four documents the empty version; of the note also the first and the third content. They wait for a day.
+            self.assertEqual(told.getvalue(), "removed 0 versions; 7 more wait\nremoved 7 versions; 0 more wait\n")
             with tool.open_store(self.folder) as store:
                 self.assertEqual([store.read("/note", version=it.number) for it in store.versions("/note")], [b"two", b"four"])
         finally:

@@ -40,6 +40,7 @@ from ._answers import (
     Removed,
     Usage,
     Version,
+    Waiting,
 )
 from ._audit import UnknownAnswer
 # Printed by tools/pages/surface --write: the errors, from _errors.py.
@@ -88,6 +89,7 @@ from ._errors import (
     NoVersion,
     ReadOnly,
     Refused,
+    RemovalWaits,
     Stop,
     Syntax,
     TooBig,
@@ -100,17 +102,18 @@ from ._policies import KeepAll, KeepOne, KeepSafe, Landmarks, Policy
 from ._sessions import Reader, Session
 from ._store import Store
 from ._times import Time, read_time
+from ._version import __version__
 
 # Printed by tools/pages/surface --write: all names, from the imports.
 __all__ = [
-    "LAST_MOMENT", "AlreadyMember", "Answered", "Answers", "BadLadder", "BadLimits", "BadMoment", "BadName", "BadPath", "BadTime", "Cause",
-    "ClockBack", "ClockDoubt", "ClockEnd", "Closed", "ClosedSession", "Current", "DeadName", "DeletedName", "DirectoryStat", "Drafting",
-    "Due", "ElephantError", "Entry", "Exists", "Fate", "File", "FileStat", "Forgotten", "Full", "Future", "Gone", "Group", "GroupExists",
-    "History", "HistoryFull", "IntoItself", "IsDirectory", "IsRoot", "JournalDamaged", "JournalError", "JournalLocked", "JournalLost",
-    "KeepAll", "KeepOne", "KeepSafe", "Kept", "Landmarks", "Limits", "Mark", "Marked", "MarkExists", "MassRemoval", "Moment", "NoEntry",
-    "NoGroup", "NoHandle", "NoHistory", "NoMark", "NoMemory", "NotAhead", "NotDirectory", "NotEmpty", "NotMember", "NotPast",
-    "NotRestorable", "NotWriter", "NoVersion", "Open", "OpenHandle", "Pass", "PathEntry", "Policy", "read_time", "Reader", "ReadOnly",
-    "Recovered", "Refused", "Removable", "Removal", "Removed", "Session", "Stop", "Store", "Syntax", "TextFile", "Time", "TooBig",
-    "UnknownAnswer", "Untold", "Usage", "Version",
+    "LAST_MOMENT", "__version__", "AlreadyMember", "Answered", "Answers", "BadLadder", "BadLimits", "BadMoment", "BadName", "BadPath",
+    "BadTime", "Cause", "ClockBack", "ClockDoubt", "ClockEnd", "Closed", "ClosedSession", "Current", "DeadName", "DeletedName",
+    "DirectoryStat", "Drafting", "Due", "ElephantError", "Entry", "Exists", "Fate", "File", "FileStat", "Forgotten", "Full", "Future",
+    "Gone", "Group", "GroupExists", "History", "HistoryFull", "IntoItself", "IsDirectory", "IsRoot", "JournalDamaged", "JournalError",
+    "JournalLocked", "JournalLost", "KeepAll", "KeepOne", "KeepSafe", "Kept", "Landmarks", "Limits", "Mark", "Marked", "MarkExists",
+    "MassRemoval", "Moment", "NoEntry", "NoGroup", "NoHandle", "NoHistory", "NoMark", "NoMemory", "NotAhead", "NotDirectory", "NotEmpty",
+    "NotMember", "NotPast", "NotRestorable", "NotWriter", "NoVersion", "Open", "OpenHandle", "Pass", "PathEntry", "Policy", "read_time",
+    "Reader", "ReadOnly", "Recovered", "Refused", "Removable", "Removal", "RemovalWaits", "Removed", "Session", "Stop", "Store", "Syntax",
+    "TextFile", "Time", "TooBig", "UnknownAnswer", "Untold", "Usage", "Version", "Waiting",
 ]
 # End of all names.

@@ -119,10 +119,17 @@ class Group(NamedTuple):
 
 
 class Pass(NamedTuple):
-    """How many versions a pass removed, and whether it left none that may be removed."""
+    """How many versions a pass removed, and whether it left none that is due."""
 
     removed: int
     finished: bool
+
+
+class Waiting(NamedTuple):
+    """How many due versions a store's guard keeps for now, and the moment until which the first of them waits."""
+
+    versions: int
+    until: Optional[Moment]
 
 
 class History(NamedTuple):

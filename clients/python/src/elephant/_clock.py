@@ -79,18 +79,24 @@ class Watch:
         self._now, self._steady = clocks.now(), clocks.steady()
         self._jump = 0.0
         self._is_trusted = False
+        self.steady = self._steady
+        """The steady clock's time at the last look."""
+        self.was_set_right = False
+        """Whether a time of day that was before the store's was set right. Who has noted it clears it."""
 
     def moment(self, store: int) -> int:
         """Returns the moment to which a store's time may move ahead; `store` is the store's moment.
 
         If the time of day was before the store's, and now isn't, somebody has set it right.
         """
-        now, steady = self.clocks.now(), self.clocks.steady()
+        now, self.steady = self.clocks.now(), self.clocks.steady()
+        steady = self.steady
         expected = self._now + steady - self._steady
         jump = now - expected
         is_set_right = expected + TOLERANCE < store <= now + TOLERANCE and not self._is_trusted
         if -TOLERANCE <= jump <= TOLERANCE or is_set_right:
             self._now, self._steady, self._jump = now, steady, 0.0
+            self.was_set_right = self.was_set_right or is_set_right
             return int(now)
         if not self._jump:
             self._is_trusted = False

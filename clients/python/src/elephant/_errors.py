@@ -4,7 +4,10 @@ from __future__ import annotations
 
 import errno
 import re
-from typing import Optional
+from typing import TYPE_CHECKING, Optional
+
+if TYPE_CHECKING:
+    from ._moments import Moment
 
 # Between the sentences of a comment.
 _SENTENCE_END = re.compile(r"(?<!\.)\. (?=[A-Z`])")
@@ -233,12 +236,16 @@ class ClockDoubt(ElephantError):
     """The time of day can't be believed, so nothing is removed. `Store.clock_fault` says why, and `Store.trust_clock` that it is right."""
 
 
-class MassRemoval(ElephantError):
-    """A pass would remove much at once, and wasn't confirmed: `count` of the `held` versions. Nothing was removed."""
+class RemovalWaits(ElephantError):
+    """What is due waits, so nothing is removed: `count` of the `held` versions, the first of them until the moment `until`."""
 
-    def __init__(self, subject: str = "", count: int = 0, held: int = 0) -> None:
+    def __init__(self, subject: str = "", count: int = 0, held: int = 0, until: Optional[Moment] = None) -> None:
         super().__init__(subject)
-        self.count, self.held = count, held
+        self.count, self.held, self.until = count, held, until
+
+
+class MassRemoval(RemovalWaits):
+    """A pass would remove much at once, and wasn't confirmed: `count` of the `held` versions, which wait for a day. Nothing was removed."""
 
 
 class ReadOnly(ElephantError):

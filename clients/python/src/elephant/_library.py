@@ -87,6 +87,9 @@ def library() -> ctypes.CDLL:
         call = getattr(loaded, f"elephant_{name}")
         call.argtypes = [c_void_p, *(kind for part in parts.split() for kind in _PARTS[part])]
         call.restype = c_int32
+    loaded.elephant_code_text.argtypes, loaded.elephant_code_text.restype = [c_int32], c_char_p
+    loaded.elephant_library_version.argtypes, loaded.elephant_library_version.restype = [], c_char_p
+    loaded.elephant_library_version_number.argtypes, loaded.elephant_library_version_number.restype = [], c_uint32
     loaded.elephant_new.argtypes, loaded.elephant_new.restype = [POINTER(c_void_p)], None
     loaded.elephant_delete.argtypes, loaded.elephant_delete.restype = [c_void_p], None
     loaded.elephant_close.argtypes, loaded.elephant_close.restype = [c_void_p], None

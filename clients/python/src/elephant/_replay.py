@@ -26,7 +26,8 @@ def write_lines(handle: int, offset: int, data: bytes) -> list[bytes]:
 class Replay:
     """Runs the changes of a journal in a fresh store, and notes which handles they leave open.
 
-    A program that notes more overrides `remark`, and `open_write`, `close` and `command`, which return the code of the library.
+    A program that notes more overrides `remark`, and `open_write`, `write`, `truncate`, `close` and `command`, which return the code of
+    the library.
     """
 
     def __init__(self, core: Core) -> None:
@@ -51,7 +52,7 @@ class Replay:
             elif word == b"close" and _are_numbers(words) and len(words) == 1:
                 code = self.close(int(rest))
             elif word == b"truncate" and _are_numbers(words) and len(words) == 2:
-                code = self.library.elephant_truncate(self._e, int(words[0]), int(words[1]))
+                code = self.truncate(int(words[0]), int(words[1]))
             else:
                 code = self.command(line)
             if code:
@@ -65,7 +66,16 @@ class Replay:
             data = unhexlify(digits)
         except ValueError:
             return self.command(b"write %b %b %b" % (handle, offset, digits))
-        code: int = self.library.elephant_write(self._e, int(handle), int(offset), data, len(data))
+        return self.write(int(handle), int(offset), data)
+
+    def write(self, handle: int, offset: int, data: bytes) -> int:
+        """Writes bytes into the draft of a handle. There is at least one."""
+        code: int = self.library.elephant_write(self._e, handle, offset, data, len(data))
+        return code
+
+    def truncate(self, handle: int, size: int) -> int:
+        """Sets the length of a draft."""
+        code: int = self.library.elephant_truncate(self._e, handle, size)
         return code
 
     def open_write(self, path: bytes) -> int:

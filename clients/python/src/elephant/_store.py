@@ -4,33 +4,23 @@ from __future__ import annotations
 
 import os
 from collections.abc import Iterator, Sequence
-from ctypes import byref, c_uint64
 from types import TracebackType
 from typing import Optional, SupportsIndex, Union
 
-from ._answers import Limits, Pass, Removable
+from ._answers import Limits
 from ._core import Core, natural
 from ._drafts import UNKNOWN
 from ._dump import dump
-from ._errors import BadName, ClockDoubt, ElephantError, MassRemoval, Refused, Stop, Untold, error_of
+from ._errors import BadName, ClockDoubt, ElephantError, Refused, Untold
+from ._forgetting import Forgetting
 from ._moments import NEVER, Moment, MomentLike
 from ._names import Path, require_shown, spell, spell_name
 from ._policies import Policy
 from ._replay import QUESTIONS
-from ._saves import Saves
 from ._turns import Clock, Fsync, Opening
 
 
-# More versions than this, which are also more than one in so many of those that are held, are much to remove at once.
-MANY, PART = 100, 5
-
-
-def is_much(count: int, held: int) -> bool:
-    """Whether a removal of so many of the held versions has to be asked for twice."""
-    return count > MANY and count * PART > held
-
-
-class Store(Saves):
+class Store(Forgetting):
     """A store of files that keep their earlier versions.
 
     `journal`: the path of the file that stores it; without one the store ends with this object. `limits`: how many of each kind it may
@@ -42,6 +32,9 @@ class Store(Saves):
     `read_only`: the store shows what the journal has now, and writes nothing anywhere, so another process may have it meanwhile. Its
     clock stands at the journal's last moment, or at `at`. `repair`: if the journal is damaged, everything from the damaged change on is
     copied into a file beside it and cut off; with `read_only` it is only left out.
+
+    `guard`: in a journal's store whose time follows the time of day, much isn't removed at once, and nothing within ten minutes; without
+    it what is due goes at once.
 
     Many threads may call a store. Paths begin with a slash. A moment is an int, of seconds since 1970, an aware datetime, or a text such
     as `2026-11-29 15:00` or `2 hours ago`, in local time.
@@ -59,9 +52,10 @@ class Store(Saves):
         read_only: bool = False,
         at: Optional[MomentLike] = None,
         repair: bool = False,
+        guard: bool = True,
     ) -> None:
         path = None if journal is None else os.fspath(journal)
-        super().__init__(Opening(path, limits or Limits(), history, clock, fsync, wait, read_only, at, repair))
+        super().__init__(Opening(path, limits or Limits(), history, clock, fsync, wait, read_only, at, repair, guard))
 
     def __enter__(self) -> Store:
         return self
@@ -165,6 +159,7 @@ class Store(Saves):
         """Removes a name of a file. With its last name its current version ends."""
         name = spell(path)
         with self._lock, self._change as core:
+            self._note_end(core, name)
             core.do(core.library.elephant_unlink, path, name, len(name))
             self._keep(b"unlink " + name)
 
@@ -183,6 +178,7 @@ class Store(Saves):
         with self._lock, self._change as core:
             version = core.ask(core.library.elephant_undelete, path, name, len(name))
             self._keep(b"undelete " + name)
+            self._note_return(core, name)
             return version or None
 
     # Older contents.
@@ -258,60 +254,7 @@ class Store(Saves):
             core.do(core.library.elephant_unmark, group, name, len(name), moment)
             self._keep(b"unmark %b %d" % (name, moment))
 
-    # Forgetting.
-
-    def clean(self) -> Optional[Removable]:
-        """Removes the first version that may be removed, and returns it. None if there is none. Raises ClockDoubt."""
-        with self._lock, self._change as core:
-            if self._most_removed(core) == 0:
-                return None
-            since, file, number = core.clean()
-            if not file:
-                return None
-            self._keep(b"clean")
-            return Removable(Moment(since), file, number)
-
-    def pass_(self, budget: Optional[SupportsIndex] = None, *, confirm: bool = False) -> Pass:
-        """Removes versions until none may be removed, or as many as the budget says. A Stop has in `removed` how many it removed
-        before. Raises ClockDoubt.
-
-        A store with a journal whose clock follows the time of day raises MassRemoval, and removes nothing, if that would be more than 100
-        versions and more than a fifth of all. With `confirm` it removes them. So a wrong date at the opening doesn't remove the past.
-        """
-        most = NEVER if budget is None else natural(budget, "a budget")
-        removed, finished = c_uint64(), c_uint64()
-        with self._lock, self._change as core:
-            most = min(most, self._most_removed(core))
-            if not confirm:
-                self._require_few(core, most)
-            code = core.library.elephant_pass(core.handle, most, byref(removed), byref(finished))
-            if removed.value:
-                core.is_ahead = True
-                self._keep(b"pass %d" % removed.value)
-            if code:
-                fault = error_of(code, "pass")
-                if isinstance(fault, Stop):
-                    fault.removed = removed.value
-                raise fault
-            return Pass(removed.value, bool(finished.value))
-
-    def _require_few(self, core: Core, most: int) -> None:
-        """Raises MassRemoval if a pass of so many versions has to be confirmed."""
-        if self._watch is None or self._journal is None or most <= MANY:
-            return
-        count = min(most, core.look(core.library.elephant_due, ""))
-        if count > MANY:
-            held = sum(it.versions for it in self.usage())
-            if is_much(count, held):
-                right = "if the date is right and you want that, call pass_(confirm=True)"
-                raise MassRemoval(f"the pass would remove {count} of {held} versions; {right}", count, held)
-
-    def _most_removed(self, core: Core) -> int:
-        """Returns how many versions may be removed: if the store's time is ahead of the time of day, only those that both make due."""
-        end = self._removal_end()
-        if end is None:
-            return NEVER
-        return sum(since <= end for since, _, _ in core.keys(core.look(core.library.elephant_due, "")))
+    # The history, and what the store has beside names and contents.
 
     def trim(self) -> int:
         """Folds the history into the store as it is, and returns how many events these were. The store needs `history=True`."""
@@ -340,14 +283,20 @@ class Store(Saves):
             if words[0] in QUESTIONS:
                 return self._begin().line(spelled).decode("ascii")
             with self._change as core:
-                if words[0] in (b"clean", b"pass") and self._removal_end() is not None:
-                    raise ClockDoubt("the store's time is ahead of the time of day; pass_() removes what both make due")
+                if words[0] in (b"clean", b"pass"):
+                    if self._removal_end() is not None:
+                        raise ClockDoubt("the store's time is ahead of the time of day; pass_() removes what both make due")
+                    self._require_leave(core, words)
                 # A question for the file would be an event of the history. Without the file's number, the draft is shared with all
                 # sessions of unknown files.
                 opens = words[:2] == [b"open", b"write"] and len(words) == 3 and not self._has_history
                 file = self._file_at(core, words[2]) if opens else UNKNOWN
+                if words[0] == b"unlink":
+                    self._note_end(core, words[-1])
                 answer = self._changing_line(core, spelled)
                 self._keep_line(words, spelled, answer, file)
+                if words[0] == b"undelete":
+                    self._note_return(core, words[-1])
             return answer.decode("ascii")
 
     @staticmethod

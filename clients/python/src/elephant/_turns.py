@@ -36,6 +36,7 @@ class Opening(NamedTuple):
     read_only: bool = False
     at: Optional[MomentLike] = None
     repair: bool = False
+    guard: bool = True
 
     def check(self) -> None:
         """Raises ValueError if the arguments don't fit together."""
@@ -45,6 +46,11 @@ class Opening(NamedTuple):
             raise ValueError("read_only and repair are for a store with a journal: give its path")
         if self.at is not None and not self.read_only:
             raise ValueError("at is for read_only=True; the clock of another store is moved by clock()")
+
+    @property
+    def is_guarded(self) -> bool:
+        """Whether a guard looks at what is to be removed: in a journal's store whose time follows the time of day."""
+        return self.guard and self.journal is not None and not self.read_only and self.clock != "manual"
 
     def watch(self) -> Optional[Watch]:
         """Returns what watches the time of day, if the store's time follows it."""
@@ -92,6 +98,8 @@ class Turns:
         """Whether the core may have a change that the journal lacks. Then the next question makes the core anew."""
         self._is_over = False
         """Whether questions fail too, as in a forked child."""
+        self._granted = 0
+        """How many versions `clean` may remove before it asks the guard again, if no time passes and nothing else is changed."""
         self._core: Optional[Core] = None
         self._journal: Optional[Journal] = None
         self.recovered = Recovered()
@@ -191,7 +199,11 @@ class Turns:
                 self._is_clock_kept = False
                 core.do(core.library.elephant_clock, now, now)
                 self._now = now
+                self._note_time()
         return core
+
+    def _note_time(self) -> None:
+        """Notices that the store's time has moved on with the time of day."""
 
     def _begin_change(self) -> Core:
         """Returns the core for a change. Raises the error of a store that can't be changed, before the core is asked."""
@@ -204,6 +216,7 @@ class Turns:
                 raise
         core = self._begin()
         core.is_ahead = False
+        self._granted = 0
         return core
 
     def _refuse_changes(self) -> None:

@@ -6,6 +6,7 @@ A `Store` makes a change of its journal of each call, and after a failed write i
 - reserve space on the disk before you answer somebody: `reserve`;
 - go on after a failed write: the store keeps the changes in memory, `stopped` says why, and `retry` writes them;
 - notice each line of the journal: override `new_replay`, with a `Replay` of your own, and `note_change`;
+- decide what is removed and when: a `KeepingStore` has no guard of its own. `Guard` is the one of the mount;
 - ask for rows often: `stat_row`, `content`, `names_in` and `first_due` take spelled paths, and make no object of a row.
 
 The store calls what is there to be overridden with its lock held. The other names are those of the package that such a program needs.
@@ -23,20 +24,22 @@ from ._answers import Limits, Removable
 from ._clock import span
 from ._core import Core
 from ._errors import ElephantError, JournalError, JournalLost, NoMemory
+from ._guard import DAY, MANY, Announced, Gaps, Guard, VersionName, is_much, named
 from ._journal import HEADER, Journal, changes_in
 from ._library import AT, NOW, VERSION
 from ._moments import Moment
 from ._names import HIDDEN, MOST_NAME, MOST_NAMES, Path, is_shown, name_of, require_shown
 from ._replay import Replay, write_lines
 from ._space import FULL, NoSpace
-from ._store import MANY, Store, is_much
+from ._store import Store
 from ._times import told_time
 from ._turns import Clock
+from ._version import about
 
 __all__ = [
-    "AT", "FULL", "HEADER", "HIDDEN", "MANY", "MOST_NAME", "MOST_NAMES", "NOW", "VERSION", "Clock", "Core", "Journal", "KeepingStore",
-    "Lines", "NoSpace", "Opposite", "Path", "Replay", "changes_in", "is_much", "is_shown", "name_of", "require_shown", "span",
-    "told_time", "write_lines",
+    "AT", "DAY", "FULL", "HEADER", "HIDDEN", "MANY", "MOST_NAME", "MOST_NAMES", "NOW", "VERSION", "Announced", "Clock", "Core", "Gaps",
+    "Guard", "Journal", "KeepingStore", "Lines", "NoSpace", "Opposite", "Path", "Replay", "VersionName", "about", "changes_in", "is_much",
+    "is_shown", "name_of", "named", "require_shown", "span", "told_time", "write_lines",
 ]
 
 # The most bytes of a change in the journal, without contents.
@@ -84,7 +87,8 @@ class KeepingStore(Store):
         self._unkept: list[Sequence[bytes]] = []
         self._gathered: Optional[Lines] = None
         self._process = os.getpid()
-        super().__init__(journal, limits=limits, clock=clock, fsync="sync", read_only=read_only, at=at)
+        # What is due goes when the program says so: it may have a `Guard` of its own.
+        super().__init__(journal, limits=limits, clock=clock, fsync="sync", read_only=read_only, at=at, guard=False)
 
     # What a program overrides.
 

@@ -8,8 +8,7 @@ from collections.abc import Sequence
 from typing import Optional
 
 from .. import LAST_MOMENT, Due, ElephantError, Removable
-from ..keeping import AT, MANY, VERSION, span
-from .guard import DAY, Guard, Name, named
+from ..keeping import AT, DAY, MANY, VERSION, Guard, VersionName, named, span
 from .log import Log, local
 from .names import name_in, shown
 from .operations import Operations
@@ -34,16 +33,16 @@ class Cleaner:
     def __init__(self, operations: Operations, log: Log, is_guarded: bool) -> None:
         self.operations, self.store, self.log = operations, operations.store, log
         self.stopping = threading.Event()
-        self.waits: dict[Name, int] = {}
+        self.waits: dict[VersionName, int] = {}
         """Until when which due versions wait."""
         self.guard = self._guard() if is_guarded else None
-        self._held: dict[Name, tuple[Removable, int]] = {}
-        self._told: set[Name] = set()
+        self._held: dict[VersionName, tuple[Removable, int]] = {}
+        self._told: set[VersionName] = set()
         self._kind, self._is_told_off, self._listed_at = "", False, 0.0
 
     def _guard(self) -> Guard:
         now, steady = int(self.store.now), self.store.steady()
-        return Guard(self.store.records.announced, now, steady, self.store.last_change or now)
+        return Guard(self.store.records.announced, now, steady, self.store.last_change or now, self.store.missed_until)
 
     # What the log says.
 
@@ -138,7 +137,7 @@ class Cleaner:
             self.waits = {}
         return self._remove_all(None)
 
-    def _remove_all(self, may_go: Optional[set[Name]]) -> int:
+    def _remove_all(self, may_go: Optional[set[VersionName]]) -> int:
         removed, count = 0, 0 if may_go is not None and not may_go else 1
         while count and not self.stopping.is_set():
             with self.operations.lock:
@@ -147,7 +146,7 @@ class Cleaner:
             time.sleep(PAUSE if count else 0)
         return removed
 
-    def _decide(self, guard: Guard) -> set[Name]:
+    def _decide(self, guard: Guard) -> set[VersionName]:
         """Asks the guard, announces what it wants announced, and returns what may go."""
         steady = self.store.steady()
         if len(self.waits) > LONG_LIST and steady < self._listed_at + LONG_EVERY:
@@ -183,7 +182,7 @@ class Cleaner:
             return False
         return last.policy != "one" and last.length > 0 and last.closed < last.ended
 
-    def _remove_some(self, may_go: Optional[set[Name]]) -> int:
+    def _remove_some(self, may_go: Optional[set[VersionName]]) -> int:
         deadline, removed = time.monotonic() + MOST_AT_ONCE, 0
         keys = self.store.first_due(MOST_KEYS)
         if keys and self.operations.readers.hold():
@@ -209,7 +208,7 @@ class Cleaner:
 
     # Versions that wait, kept by handles, since the store removes in the order in which versions became due.
 
-    def _hold_first(self, due: Sequence[Removable], may_go: set[Name]) -> None:
+    def _hold_first(self, due: Sequence[Removable], may_go: set[VersionName]) -> None:
         """Opens handles for versions that wait, if many others may go that became due after them."""
         first = [key for key in due if named(key) not in may_go and named(key) not in self._held]
         if not first or len(first) + len(self._held) > MOST_HELD:
@@ -243,7 +242,7 @@ class Cleaner:
     def release_all(self) -> None:
         self.release(set(self._held))
 
-    def release(self, names: set[Name]) -> None:
+    def release(self, names: set[VersionName]) -> None:
         """Closes the handles of versions that needn't wait any more."""
         for name in list(self._held):
             if name in names:

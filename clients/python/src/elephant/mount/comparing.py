@@ -8,12 +8,16 @@ from __future__ import annotations
 from collections.abc import Collection, Iterator
 from hashlib import sha256
 from itertools import zip_longest
-from typing import NamedTuple
+from typing import TYPE_CHECKING, NamedTuple
 
 from .. import LAST_MOMENT, ElephantError, JournalError
 from ..keeping import Core, Replay
 from .counts import Counts
 from .records import Attributes, Records
+from .sharing import Sharing, compare_blocks
+
+if TYPE_CHECKING:
+    from .shorter import Census
 
 # What comes next in a store: its numbers have to go on in the same way.
 _NEXT = (b"group make .next", b"mkdir %b", b"rmdir %b", b"create %b", b"group add .next %b", b"open write %b", b"unlink %b")
@@ -28,13 +32,14 @@ class Side(NamedTuple):
     replay: Replay
 
 
-def compare(old: Side, new: Side, changes: Collection[tuple[int, bytes]]) -> None:
-    """Raises JournalError with the first difference. `changes` are the moments at which names changed, each with a path."""
+def compare(old: Side, new: Side, census: Census, made: Sharing) -> None:
+    """Raises JournalError with the first difference. `census` has seen the old journal, and `made` the new one."""
     _equal(*(iter([repr(sorted(it.counts.used.items())).encode()]) for it in (old, new)))
     _equal(_attributes(old.records, new.records), _attributes(new.records, new.records))
     _equal(told(old.core), told(new.core))
     _equal(_sessions(old), _sessions(new))
-    _equal(_past(old.core, changes), _past(new.core, changes))
+    compare_blocks(census, made, old.core)
+    _equal(_past(old.core, census.changes), _past(new.core, census.changes))
     _equal(_restored(old.core), _restored(new.core))
     _equal(told(old.core), told(new.core))
     _equal(_next(old.core), _next(new.core))
@@ -64,7 +69,7 @@ def told(core: Core) -> Iterator[bytes]:
     for line in (b"restorable", b"due", b"groups", b"ahead %d" % LAST_MOMENT, b"clock %d" % core.now()):
         yield core.line(line)
     for row in core.line(b"usage").splitlines():
-        yield row.rpartition(b" ")[0]  # how many blocks they share depends on how they were written
+        yield row.rpartition(b" ")[0]  # the new store may share more blocks: sharing.py compares these
     yield core.line(b"stat /")
     for folder, is_directory, path in below(core):
         yield core.line(b"stat " + path)

@@ -12,6 +12,7 @@ import sys
 from typing import Optional
 
 from .. import ElephantError, JournalLocked, Limits
+from ..keeping import about
 from .client import ask, undo_line
 from .wording import line_of, words_of
 
@@ -32,6 +33,7 @@ def _parser() -> argparse.ArgumentParser:
     words.add_argument("--moment", metavar="TIME", help="with --read-only: the moment of the stopped clock, if not the journal's last one")
     words.add_argument("--past", action="append", default=[], metavar="FILE", help="an older journal whose past is shown too, read only")
     words.add_argument("--limit", action="append", default=[], metavar="NAME=NUMBER", help="a smaller limit, as files=1000")
+    words.add_argument("--version", action="store_true", help="print the version, and of which proof the library is")
     words.add_argument("--at", nargs=argparse.REMAINDER, metavar="FOLDER LINE", help="send a line to the mount, and print its answer")
     return words
 
@@ -58,6 +60,9 @@ def main(argv: Optional[list[str]] = None) -> int:
         return _move(words[1:])
     parser = _parser()
     asked = parser.parse_args(words)
+    if asked.version:
+        print(f"elephant-mount {about()}", end="")
+        return 0
     if asked.at is not None:
         parser.error("--at stands alone, with FOLDER and LINE after it")
     if not asked.folder or not asked.journal:

@@ -9,7 +9,7 @@ The store's journal stores them, as remarks:
     # xattr f12 NS 757365722e61 =6f6e65   file 12 has the extended attribute user.a with the value one, both in hexadecimal
     # xattr f12 NS 757365722e61           file 12 has lost the attribute, and without a name it has none
 
-The remarks `due` and `undue` are those of the guard.
+The remarks `due` and `undue` are those of the guard: see _guard.py of the package.
 
 NS is a time in nanoseconds since 1970. A mode has the kind of the file too: a symbolic link is a file of the store whose content is
 its target path.
@@ -24,7 +24,7 @@ from binascii import hexlify, unhexlify
 from contextlib import suppress
 from typing import Optional
 
-from .guard import Announced
+from ..keeping import Announced
 
 _COARSE = 5  # CLOCK_REALTIME_COARSE
 FILE_MODE, DIRECTORY_MODE = stat.S_IFREG | 0o644, stat.S_IFDIR | 0o755

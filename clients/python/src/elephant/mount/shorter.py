@@ -1,8 +1,8 @@
 """Writes a shorter journal of a mount's: `python3 -m elephant.mount.shorter OLD SIZE NEW`, in a process of its own.
 
 The new journal makes the same store, with the same numbers and moments. It has every command of the old one, since each may have used a
-number. It lacks the contents that no held version needs: a removed version has one byte, and a held one only the parts that differ from
-the version before it. It has each file's attributes once.
+number. It lacks the contents that no held version needs: a removed version has its length and mostly one byte, and a held one only the
+slots that differ from the version before it. What shared a block shares one. It has each file's attributes once.
 
 Sessions that are open stay open, with what was written.
 
@@ -13,106 +13,81 @@ from __future__ import annotations
 
 import os
 import sys
+from collections.abc import Collection, Iterator
+from typing import NamedTuple
 
 from .. import ElephantError, JournalError, Limits
 from ..keeping import Core, Journal, Replay, changes_in, write_lines
 from .comparing import Side, compare
-from .counts import Counts
-from .drafts import changed_parts
-from .records import Records, everything, file_key
-from .witness import OF_NAMES, Witness
+from .records import everything, file_key
+from .sharing import SLOT, Draft, Sharing, Version
+from .witness import OF_NAMES
 
-Version = tuple[int, int]
 REMARKS_AT_ONCE = 500
 
 
-class Census(Witness):
-    """Runs the old journal, and finds which version each handle made, which versions were removed, which were copied from which, and when
-    each name changed."""
+class Made(NamedTuple):
+    """A version that a close made: its length, and the first slot that it wrote, or -1 if it wrote none that it has."""
+
+    version: Version
+    length: int
+    own: int
+
+
+class Census(Sharing):
+    """Runs the old journal, and finds which version each handle made, what is held, and when each name changed."""
 
     def __init__(self, core: Core) -> None:
-        super().__init__(core, Records(), Counts(Limits()))
-        self.files: dict[int, int] = {}
-        self.made: dict[int, Version] = {}
+        super().__init__(core)
+        self.made: dict[int, Made] = {}
         """By the number of the handle whose close made it."""
-        self.removed: set[Version] = set()
-        self.held: set[Version] = set()
-        self.copies: list[tuple[Version, Version]] = []
         self.changes: set[tuple[int, bytes]] = set()
         """The moments of each change of a name, each with the path."""
-        self.drafted: set[int] = set()
-        """The files that have an open session at the end."""
-
-    def open_write(self, path: bytes) -> int:
-        code = super().open_write(path)
-        if not code:
-            handle = self.core.number
-            self.files[handle] = self.core.stat(path, path).id
-        return code
+        self.lived_on: dict[Version, set[int]] = {}
+        """The slots that removed versions wrote and others still have."""
 
     def close(self, handle: int) -> int:
+        draft = self.drafts.get(self.files.get(handle, 0))
         code = super().close(handle)
-        if not code and self.core.number:
-            self.made[handle] = self.files[handle], self.core.number
-            self.held.add(self.made[handle])
-        self.files.pop(handle, None)
+        if draft is not None and not code and self.core.number:
+            self.made[handle] = made_of(draft)
         return code
 
     def command(self, line: bytes) -> int:
         word, *words = line.split(b" ")
         if word in OF_NAMES:
             self.changes.update((self.moment, path) for path in words)
-        if word in (b"clean", b"pass"):
-            return self._removals(1 if word == b"clean" else int(words[0]))
-        code = super().command(line)
-        if not code and word in (b"create", b"revert"):
-            row = self.core.stat(words[0], words[0])
-            file, number = int(row.id), int(row.version)
-            self.held.add((file, number))
-            if word == b"revert":
-                self.copies.append(((file, int(words[1])), (file, number)))
-        return code
-
-    def undelete(self, path: bytes) -> int:
-        code = super().undelete(path)
-        number = self.core.number
-        if not code and number:
-            file = int(self.core.stat(path, path).id)
-            self.copies.append(((file, number - 1), (file, number)))
-            self.held.add((file, number))
-        return code
-
-    def _removals(self, count: int) -> int:
-        for _ in range(count):
-            _, file, number = self.core.clean()
-            self.removed.add((file, number))
-            self.held.discard((file, number))
-        return 0
+        return super().command(line)
 
     def end(self) -> None:
         """Frees the store, and keeps the results."""
-        self.drafted = set(self.files.values())
         self.core.free()
+        for (file, _), content in self.all_contents():
+            draft = self.drafts.get(file)
+            for writer in set(content.writers):
+                if (file, writer) in self.contents or (draft is not None and writer == draft.number):
+                    continue
+                slots = self.lived_on.setdefault((file, writer), set())
+                slots.update(slot for slot, it in enumerate(content.writers) if it == writer)
 
-    def needed(self) -> set[Version]:
-        """Returns the versions whose contents the new journal needs: the held ones, and those that they are copies of."""
-        needed = set(self.held)
-        for source, made in reversed(self.copies):
-            if made in needed:
-                needed.add(source)
-        return needed
+
+def made_of(draft: Draft) -> Made:
+    """Returns the version that a draft becomes."""
+    own = draft.writers.index(draft.number) if draft.number in draft.writers else -1
+    return Made((draft.file, draft.number), draft.length, own)
 
 
 class Shortening(Replay):
-    """Runs the old journal again, and with it a store that gets the lines of the new one."""
+    """Runs the old journal again, and with it a store that gets the lines of the new one.
+
+    A slot that a held version has from an older one has to stay that one's in the new store. So a removed version gets its length, what it
+    wrote that others still have, and, if that changes nothing, one byte in a slot that it wrote.
+    """
 
     def __init__(self, core: Core, other: Core, census: Census) -> None:
         super().__init__(core)
-        self._other_core, self._made, self._needed = other, census.made, census.needed()
+        self._other_core, self._census = other, census
         self._lines: list[bytes] = []
-        self._files: dict[int, int] = {}
-        self._changed: set[int] = set()
-        """The files whose drafts are changed."""
 
     def shorten(self, change: list[bytes]) -> list[bytes]:
         """Runs a change, and returns the lines of the new journal for it."""
@@ -120,30 +95,18 @@ class Shortening(Replay):
         self.run(change)
         return self._lines
 
-    def run(self, lines: list[bytes]) -> None:
-        super().run(lines)
-        for line in lines:
-            if line.startswith((b"write ", b"truncate ")):
-                file = self._files.get(int(line.split(b" ", 2)[1]))
-                if file is not None:
-                    self._changed.add(file)
-
     def open_drafts(self) -> list[bytes]:
         """Returns the lines of what open sessions have written."""
         self._lines = []
+        drafts = dict(self._census.drafts)
         for handle in sorted(self.writers):
-            file = self._files[handle]
-            if file in self._changed:
-                self._fill(handle, True)
-                self._changed.discard(file)  # all sessions of a file share the draft
+            draft = drafts.pop(self._census.files[handle], None)  # all sessions of a file share the draft
+            if draft is not None and draft.is_changed:
+                self._fill(handle, made_of(draft), True)
         return self._lines
 
     def open_write(self, path: bytes) -> int:
-        code = super().open_write(path)
-        if not code:
-            handle = self.core.number
-            self._files[handle] = int(self.core.stat(path, path).id)
-        return code or self._also(b"open write " + path)
+        return super().open_write(path) or self._also(b"open write " + path)
 
     def _also(self, line: bytes) -> int:
         """Runs a line in the other store, and adds it to the new journal."""
@@ -154,33 +117,62 @@ class Shortening(Replay):
         return 0
 
     def close(self, handle: int) -> int:
-        made = self._made.get(handle)
+        made = self._census.made.get(handle)
         if made is not None:
-            self._fill(handle, made in self._needed)
-        file = self._files.pop(handle, None)
-        if file is not None and file not in self._files.values():
-            self._changed.discard(file)
-        code = super().close(handle)
-        return code or self._also(b"close %d" % handle)
+            self._fill(handle, made, made.version in self._census.contents)
+        return super().close(handle) or self._also(b"close %d" % handle)
 
-    def _fill(self, handle: int, is_needed: bool) -> None:
-        """Writes the content into the other store's draft, or one byte if nobody will read it."""
-        if not is_needed:
-            self._also(b"write %d 0 00" % handle)
-            return
-        content, old = (core.read_handle("", handle) for core in (self.core, self._other_core))
-        if not content and not old:  # something was written and cut again
-            self._also(b"write %d 0 00" % handle)
-            self._also(b"truncate %d 0" % handle)
-        for start, end in changed_parts(old, content):
-            for line in write_lines(handle, start, content[start:end]):
-                self._also(line)
-        if len(content) < len(old):
-            self._also(b"truncate %d %d" % (handle, len(content)))
+    def _fill(self, handle: int, made: Made, is_held: bool) -> None:
+        """Writes a version into the other store's draft: all of it, or what others need of it."""
+        slots = self._census.lived_on.get(made.version, set())
+        if is_held or slots:
+            content, old = (core.read_handle("", handle) for core in (self.core, self._other_core))
+            wanted = content if is_held else _with_slots(old, content, slots)
+            lines = list(_changes(handle, old, wanted))
+        else:
+            wanted, other = b"", self._other_core
+            has_length = other.look(other.library.elephant_read_handle, "", handle) == made.length
+            lines = [] if has_length else [b"truncate %d %d" % (handle, made.length)]
+        for line in lines or _touch(handle, made, wanted):
+            self._also(line)
 
     def command(self, line: bytes) -> int:
-        code = super().command(line)
-        return code or self._also(line)
+        return super().command(line) or self._also(line)
+
+
+def _with_slots(old: bytes, content: bytes, slots: Collection[int]) -> bytes:
+    """Returns the old bytes in the length of a content, with some slots of it."""
+    found = bytearray(old[:len(content)].ljust(len(content), b"\0"))
+    for slot in slots:
+        found[slot * SLOT:(slot + 1) * SLOT] = content[slot * SLOT:(slot + 1) * SLOT]
+    return bytes(found)
+
+
+def _changes(handle: int, old: bytes, new: bytes) -> Iterator[bytes]:
+    """Yields the lines that make an old content a new one, by whole slots. None writes a slot that stays as it is."""
+    if len(new) < len(old):
+        yield b"truncate %d %d" % (handle, len(new))
+    kept, reached = old[:len(new)].ljust(len(new), b"\0"), len(old)
+    at = 0
+    while at < len(new):
+        start = at
+        while at < len(new) and kept[at:at + SLOT] != new[at:at + SLOT]:
+            at += SLOT
+        if at > start:
+            yield from write_lines(handle, start, new[start:at])
+            reached = max(reached, min(at, len(new)))
+        at += SLOT
+    if reached < len(new):
+        yield b"truncate %d %d" % (handle, len(new))
+
+
+def _touch(handle: int, made: Made, content: bytes) -> list[bytes]:
+    """Returns lines that make a draft changed, and no block that the version shared."""
+    if made.own >= 0:
+        at = made.own * SLOT
+        return write_lines(handle, at, content[at:at + 1] or b"\0")
+    # It was only cut, at the end of a slot.
+    return [b"write %d %d 00" % (handle, made.length), b"truncate %d %d" % (handle, made.length)]
 
 
 def shorten(old: str, size: int, new: str) -> None:
@@ -196,11 +188,11 @@ def shorten(old: str, size: int, new: str) -> None:
         _write(old, size, shortening, journal, census)
     finally:
         journal.close()
-    made = Witness(Core(Limits(), False), Records(), Counts(Limits()))
+    made = Sharing(Core(Limits(), False))
     for change in changes_in(new, os.path.getsize(new)):
         made.run(change)
     sides = Side(core, census.records, census.counts, shortening), Side(made.core, made.records, made.counts, made)
-    compare(*sides, census.changes)
+    compare(*sides, census, made)
 
 
 def _write(old: str, size: int, shortening: Shortening, journal: Journal, census: Census) -> None:
@@ -212,10 +204,10 @@ def _write(old: str, size: int, shortening: Shortening, journal: Journal, census
     drafts = shortening.open_drafts()
     if drafts:
         journal.append(drafts)
-    files = {file_key(file) for file in {file for file, _ in census.held} | census.drafted}
+    files = {file_key(file) for file in {file for file, _ in census.contents} | census.drafts.keys()}
     remarks = [line for key, it in census.records.by_key.items() if key & 1 or key in files for line in everything(key, it)]
     announced = census.records.announced
-    announced.drop(announced.since.keys() - census.held)
+    announced.drop(announced.since.keys() - census.contents.keys())
     remarks += announced.remarks()
     for start in range(0, len(remarks), REMARKS_AT_ONCE):
         journal.append(remarks[start:start + REMARKS_AT_ONCE])

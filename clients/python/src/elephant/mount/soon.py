@@ -5,9 +5,8 @@ from __future__ import annotations
 from typing import NamedTuple, Optional
 
 from .. import LAST_MOMENT, ElephantError, KeepSafe, Landmarks, Policy, Removable
-from ..keeping import AT, NOW, span
+from ..keeping import AT, DAY, NOW, named, span
 from .cleaning import Cleaner, shown_path
-from .guard import DAY, named
 from .log import local
 
 AHEAD = 7 * DAY

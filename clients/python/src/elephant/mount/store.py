@@ -50,7 +50,7 @@ class _MountReplay(Witness):
         # Before a name ends whose content is another file's next version, the file gets this policy.
         self._given = paths[0] if word == b"policy" and paths[-1] == b"one" else b""
         code = super().command(line)
-        self._store.first_moment = self.first_moment
+        self._store.first_moment, self._store.missed_until = self.first_moment, self.gaps.last_end
         return code
 
 
@@ -72,6 +72,8 @@ class MountStore(KeepingStore):
         self.departed: dict[int, Departed] = {}
         self.first_moment = 0
         """The moment of the journal's first change, or 0."""
+        self.missed_until = 0
+        """The end of the last day or more without a change, when the journal was opened."""
         self.name_changes = 0
         """A count that goes up whenever a name may have ended, was restored, or is no longer restorable."""
         super().__init__(journal, limits, read_only, clock, at)

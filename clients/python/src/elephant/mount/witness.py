@@ -2,7 +2,7 @@
 
 from __future__ import annotations
 
-from ..keeping import Core, Replay
+from ..keeping import Core, Gaps, Replay
 from .counts import Counts
 from .records import Records
 
@@ -17,6 +17,7 @@ class Witness(Replay):
         self.records, self.counts = records, counts
         self.first_moment = self.moment = 0
         """Those of the first change and now."""
+        self.gaps = Gaps()
 
     def remark(self, text: bytes) -> None:
         self.records.apply(text)
@@ -42,6 +43,7 @@ class Witness(Replay):
             self.counts.take_line(line)
         if word in (b"clock", b"tick"):
             self.moment = self.core.now()
+            self.gaps.note(self.moment)
             self.first_moment = self.first_moment or self.moment
         return code
 
