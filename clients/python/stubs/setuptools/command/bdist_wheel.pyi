@@ -1,0 +1,4 @@
+from setuptools import Command
+
+class bdist_wheel(Command):
+    def get_tag(self) -> tuple[str, str, str]: ...

@@ -1,0 +1,4 @@
+from setuptools import Command
+
+class build_py(Command):
+    build_lib: str

@@ -1,0 +1,1 @@
+from setuptools.command.bdist_wheel import bdist_wheel as bdist_wheel
