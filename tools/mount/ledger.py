@@ -60,7 +60,7 @@ class Disk:
     def do_nothing(self, *_: str) -> None:
         """Opening, reading, closing and waiting change no name and no content."""
 
-    do_read = do_hold = do_close = do_folder = do_pause = do_nothing
+    do_read = do_hold = do_share = do_close = do_folder = do_pause = do_nothing
 
 
 @dataclass

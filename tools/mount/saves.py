@@ -83,6 +83,9 @@ class Caller:
     def do_hold(self, path: Path) -> None:
         self.opened.append(open(path, "r+", encoding="ascii"))
 
+    def do_share(self) -> None:
+        os.close(os.dup(self.opened[-1].fileno()))
+
     def do_close(self) -> None:
         while self.opened:
             self.opened.pop().close()
@@ -140,6 +143,27 @@ def saves(room: str, asked: argparse.Namespace) -> Counts:
             seen.expect(f"{way.name}: undone", (top / "f").read_text().strip(), way.undone)
         told = refusal(lambda: os.open(mounted.folder, os.O_TMPFILE | os.O_WRONLY))
         seen.expect("a file that is made without a name", told, errno.errorcode[errno.EOPNOTSUPP])
+    return seen.counts()
+
+
+def children(room: str, asked: argparse.Namespace) -> Counts:
+    """Each save is a version though children of the program still have the file open to write it, also if the mount is killed then."""
+    seen, texts = Faults("children"), ("one", "two", "three")
+    processes: list[subprocess.Popen[bytes]] = []
+    with Mounted(room) as mounted:
+        try:
+            for text in texts:
+                with open(mounted.folder / "f", "w", encoding="ascii") as file:
+                    file.write(text)
+                    processes.append(subprocess.Popen(["sleep", "600"], pass_fds=[file.fileno()]))
+            seen.expect("the versions before the last save", _texts(mounted, "f"), texts[:-1])
+            mounted.kill()
+            mounted.start()
+            seen.expect("the versions after a kill", _texts(mounted, "f"), texts)
+        finally:
+            for process in processes:
+                process.kill()
+                process.wait()
     return seen.counts()
 
 
@@ -246,4 +270,4 @@ def folders(room: str, asked: argparse.Namespace) -> Counts:
     return seen.counts()
 
 
-CHECKS = [saves, commands, folders]
+CHECKS = [saves, children, commands, folders]

@@ -144,7 +144,8 @@ def start_all(mounts: list[Mounted]) -> None:
 
 
 class Saver(threading.Thread):
-    """Saves files over and over, until the mount is killed."""
+    """Saves files over and over, until the mount is killed. A process that the script starts meanwhile has the file that is being saved,
+    until it runs its own program: so the kernel may release that file after the next save has begun."""
 
     NAMES = [f"busy/b{number}" for number in range(4)]
 

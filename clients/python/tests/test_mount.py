@@ -51,17 +51,15 @@ class Mounted:
         assert isinstance(node, File)
         return node
 
-    def open(self, node: File, writes: bool = True) -> File:
-        node.opens += 1
-        node.writers += writes
+    def open(self, node: File, writes: bool = True, is_cut: bool = False) -> File:
+        self.contents.opened(node, writes, is_cut)
         return node
 
     def save(self, name: bytes, data: bytes, parent: Optional[Directory] = None) -> File:
         """Saves as a program does that opens, cuts off, writes and closes."""
         parent = parent or self.top
-        node = self.open(self.file(name, parent) if name in parent.children else self.make(name, parent=parent))
-        if node.size:
-            self.contents.truncate(node, 0)
+        node = self.file(name, parent) if name in parent.children else self.make(name, parent=parent)
+        self.open(node, is_cut=self.contents.size(node) > 0)
         self.contents.write(node, 0, data)
         self.contents.save(node)
         self.contents.closed(node, True)

@@ -39,15 +39,15 @@ class Caller:
     def do_folder(self, path: str) -> None:
         self.mounted.naming.mkdir(*self.place(path), FOLDER, 0, 0)
 
-    def _open(self, node: File, writes: bool) -> None:
-        self.mounted.open(node, writes)
+    def _open(self, node: File, writes: bool, is_cut: bool = False) -> None:
+        self.mounted.open(node, writes, is_cut)
         self.opened.append((node, writes))
 
     def do_begin(self, path: str, text: str) -> None:
         folder, name = self.place(path)
-        node = self.node(path) if name in folder.children else self.mounted.naming.create(folder, name, FILE, 0, 0)
-        self._open(node, True)
-        self.mounted.contents.truncate(node, 0)
+        is_there = name in folder.children
+        node = self.node(path) if is_there else self.mounted.naming.create(folder, name, FILE, 0, 0)
+        self._open(node, True, is_there)
         self.mounted.contents.write(node, 0, text.encode())
 
     def _close_last(self) -> None:
@@ -69,6 +69,9 @@ class Caller:
 
     def do_hold(self, path: str) -> None:
         self._open(self.node(path), True)
+
+    def do_share(self) -> None:
+        self.mounted.contents.save(self.opened[-1][0])
 
     def do_close(self) -> None:
         while self.opened:

@@ -32,7 +32,7 @@ from elephant.mount.mounting import Asked, Mount
 from elephant.mount.names import spelled
 from elephant.mount.operations import Operations
 from elephant.mount.rewriting import SUFFIX, Rewriting
-from elephant.mount.tree import Directory
+from elephant.mount.tree import Directory, File
 from clocks import FalseClocks
 from test_mount import FILE, FOLDER, Case, Mounted
 from test_mount_names import make_raw
@@ -257,6 +257,95 @@ class Keepers(Parts):
         keeper = self.keeper()
         keeper.retry()
         self.assertEqual((it.store.stopped, it.contents.drafts, it.versions(b"f")), ("", set(), [b"", b"one"]))
+
+
+class Openings(Parts):
+    """A close sends the kernel's request `flush`, and `release` only when no process has the descriptor any more."""
+
+    def opened(self, node: File, flags: int) -> int:
+        return int(asyncio.run(self.operations.open(node.ino, flags, None)).fh)
+
+    def write(self, handle: int, data: bytes) -> None:
+        self.assertEqual(asyncio.run(self.operations.write(handle, 0, data)), len(data))
+        asyncio.run(self.operations.flush(handle))
+
+    def cut(self, node: File, size: int, handle: Optional[int]) -> None:
+        fields = types.SimpleNamespace(**dict.fromkeys((f"update_{it}" for it in ("mode", "uid", "gid", "atime", "mtime")), False))
+        fields.update_size, attributes = True, mock.Mock(st_size=size)
+        asyncio.run(self.operations.setattr(node.ino, attributes, fields, handle, None))
+
+    def release(self, *handles: int) -> None:
+        for it in handles:
+            asyncio.run(self.operations.release(it))
+
+    def test_a_save_whose_release_comes_late_is_a_version(self) -> None:
+        for flags in (os.O_WRONLY, os.O_RDWR, os.O_WRONLY | os.O_TRUNC):
+            with self.subTest(flags=flags):
+                self.unmount()
+                self.journal.unlink(missing_ok=True)
+                it = self.mount()
+                node, handles = it.save(b"f", b"zero"), []
+                for text in (b"one.", b"two.", b"three"):
+                    handles.append(self.opened(node, flags))
+                    self.write(handles[-1], text)
+                self.assertEqual(it.versions(b"f"), [b"", b"zero", b"one.", b"two."])
+                copy = self.journal.with_name("copy")
+                copy.write_bytes(self.journal.read_bytes())
+                killed = Mounted(copy)
+                self.assertEqual(killed.versions(b"f")[-2:], [b"two.", b"three"])
+                killed.close()
+                self.release(*handles)
+                self.assertEqual((it.versions(b"f")[3:], node.opens, node.writers), ([b"two.", b"three"], 0, 0))
+
+    def test_closing_duplicates_of_a_descriptor_makes_no_versions(self) -> None:
+        it = self.mount()
+        node = it.make(b"f")
+        handle = self.opened(node, os.O_WRONLY)
+        for text in (b"one", b"two", b"three"):
+            self.write(handle, text)
+        self.release(self.opened(node, os.O_RDONLY))
+        self.assertEqual(it.versions(b"f"), [b""])
+        self.release(handle)
+        self.assertEqual(it.versions(b"f"), [b"", b"three"])
+
+    def test_what_another_program_cuts_off_is_a_version(self) -> None:
+        it = self.mount()
+        node = it.save(b"f", b"one")
+        handle = self.opened(node, os.O_WRONLY)
+        it.contents.write(node, 3, b"more")
+        self.release(self.opened(node, os.O_WRONLY))
+        self.assertEqual(it.versions(b"f"), [b"", b"one"])  # what it writes isn't complete
+        self.release(self.opened(node, os.O_WRONLY | os.O_TRUNC))
+        self.assertEqual((it.versions(b"f"), it.read(b"f")), ([b"", b"one", b"onemore"], b""))
+        self.write(handle, b"two")
+        self.cut(node, 2, handle)
+        asyncio.run(self.operations.flush(handle))
+        for size in (1, 0):
+            self.cut(node, size, None)
+        self.release(handle)
+        self.assertEqual(it.versions(b"f")[3:], [b"tw", b"t", b""])
+
+    def test_a_cut_that_is_refused_leaves_the_file_closed(self) -> None:
+        it = self.mount(Limits(versions=3))
+        node = it.save(b"f", b"one")
+        handle = self.opened(node, os.O_WRONLY)
+        self.write(handle, b"two")
+        self.write(handle, b"six")
+        for flags in (os.O_WRONLY | os.O_TRUNC, os.O_RDONLY | os.O_TRUNC):
+            with self.assertRaises(pyfuse3.FUSEError) as refused:
+                self.opened(node, flags)
+            self.assertEqual((refused.exception.errno, node.opens, node.writers), (errno.ENOSPC, 1, 1))
+        self.release(handle)
+        self.assertEqual((it.versions(b"f"), node.writers), ([b"", b"one", b"six"], 0))
+
+    def test_a_saved_file_that_is_deleted_goes_on_though_its_release_comes_late(self) -> None:
+        it = self.mount()
+        handle = self.opened(it.make(b"f"), os.O_WRONLY)
+        self.write(handle, b"one")
+        it.naming.unlink(it.top, b"f")
+        it.save(b"f", b"two")
+        self.release(handle)
+        self.assertEqual(it.versions(b"f"), [b"", b"one", b"one", b"two"])
 
 
 class Faults(Parts):

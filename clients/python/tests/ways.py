@@ -5,8 +5,9 @@ what the row says, and `undo f` has to bring `one` back, or what the row says.
 
 The words of a call: `write NAME TEXT` opens and cuts off or makes a file, writes it and closes it; `over` writes over a file without
 cutting it off; `begin` does as `write` and leaves it open; `read` and `hold` open a file to read it, or to write it, and leave it open;
-`close` closes what was left open. `move`, `link`, `unlink`, `exchange` change names, and `folder` makes one. `pause` waits until a new file
-of a name doesn't continue its past any more.
+`share` closes a duplicate of what was left open last, as a program does whose child still has the file; `close` closes what was left open.
+`move`, `link`, `unlink`, `exchange` change names, and `folder` makes one. `pause` waits until a new file of a name doesn't continue its
+past any more.
 """
 
 from __future__ import annotations
@@ -33,6 +34,10 @@ WAYS = (
     Way("write over the file: cp, tee, nano, `>`", "write f two"),
     Way("write over it without cutting it off: dd conv=notrunc, databases", "over f two"),
     Way("write over it while it is read", "read f; write f two; close"),
+    Way("write over it twice while a program holds it to write it", "hold f; write f mid; write f two; close", TWICE, "mid"),
+    Way("the same without cutting it off", "hold f; over f mid; over f two; close", TWICE, "mid"),
+    Way("write over it while a child of the program that saved it has it", "begin f mid; share; over f two; close", TWICE, "mid"),
+    Way("cut it off and write it while another program writes it: `>` over a log", "begin f mid; write f two; close", TWICE, "mid"),
     Way("write over it after a copy is made: vim with backupcopy=yes", "write f~ one; write f two; unlink f~"),
     Way("a new file is renamed over it: sed -i, rsync, gedit, Python's os.replace", "write n two; move n f"),
     Way("a new file of another folder is renamed over it", "folder d; write d/n two; move d/n f"),

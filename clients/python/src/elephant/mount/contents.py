@@ -192,6 +192,26 @@ class Contents:
         self.forget_read()
         node.size, node.version = size, version or node.version
 
+    def settle_saved(self, node: File, is_cut: bool = False) -> None:
+        """Makes a version of what programs have saved in a file that some program still has open to write it. Call it before another save
+        begins: a child of the program that saved may have the file, and so its release comes late. What a save cuts off becomes a version
+        even if it wasn't saved."""
+        if node.names and (node.is_saved or (is_cut and node.draft)):
+            self.settle(node)
+
+    def opened(self, node: File, writes: bool, is_cut: bool = False) -> None:
+        """Notes that a descriptor is opened, and cuts the file off if the program wants that."""
+        if writes or is_cut:
+            self.settle_saved(node, is_cut)
+        if is_cut:
+            node.writers += 1  # so that the cut is no version
+            try:
+                self.truncate(node, 0)
+            finally:
+                node.writers -= 1
+        node.opens += 1
+        node.writers += writes
+
     def closed(self, node: File, writes: bool) -> None:
         """Notes that a descriptor is closed."""
         node.opens -= 1

@@ -126,7 +126,7 @@ class Naming(GoingOn):
         node = self.child(parent, name)
         if isinstance(node, Directory):
             raise IsADirectoryError(errno.EISDIR, shown(name))
-        has_past = node.is_regular and (node.draft is None or node.version > 1) and self._set_down(node)
+        has_past = node.is_regular and (node.draft is None or node.version > 1 or node.is_saved) and self._set_down(node)
         if len(node.names) == 1:
             self.contents.hold(node)
         now = records.now_ns()

@@ -219,6 +219,8 @@ class Operations(Answering):
         if fields.update_size:
             if not isinstance(node, File):
                 raise OSError(errno.EISDIR, "")
+            if handle is None:
+                self.contents.settle_saved(node, attributes.st_size == 0)
             self.contents.truncate(node, attributes.st_size)
         asked = (
             ("mode", fields.update_mode, attributes.st_mode), ("owner", fields.update_uid, attributes.st_uid),
@@ -330,10 +332,9 @@ class Operations(Answering):
         assert isinstance(node, File)
         return node
 
-    def _opened(self, node: File, flags: int) -> int:
+    def _opened(self, node: File, flags: int, is_cut: bool = False) -> int:
         writes = flags & os.O_ACCMODE != os.O_RDONLY
-        node.opens += 1
-        node.writers += writes
+        self.contents.opened(node, writes, is_cut)
         return node.ino * 2 + writes
 
     @answered
@@ -343,15 +344,9 @@ class Operations(Answering):
             return self._open_past(ino, flags)
         if not node.names and node.draft is None:
             raise OSError(errno.ESTALE, "")
-        if flags & (os.O_ACCMODE | os.O_TRUNC):
+        if flags & _CHANGES:
             self.require_writable()
-        if flags & os.O_TRUNC:
-            node.writers += 1
-            try:
-                self.contents.truncate(node, 0)
-            finally:
-                node.writers -= 1
-        return self._info(self._opened(node, flags), True)
+        return self._info(self._opened(node, flags, bool(flags & os.O_TRUNC)), True)
 
     def _open_past(self, ino: int, flags: int) -> Any:
         node = self._node(ino)

@@ -66,6 +66,11 @@ class File(Node):
         raise OSError(errno.ESTALE, "the file has no name any more")
 
     @property
+    def is_saved(self) -> bool:
+        """Whether the store has all of the draft: a program has closed or synced the file since it was changed."""
+        return self.handle is not None and not self.is_unsaved
+
+    @property
     def is_regular(self) -> bool:
         return stat.S_ISREG(self.attributes.mode)
 
