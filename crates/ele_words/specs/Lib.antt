@@ -6,5 +6,6 @@ pub mod Status
 pub mod Storms
 pub mod StrictEnd
 pub mod Summary
+pub mod SystemError
 pub mod SystemReason
 pub mod Watched

@@ -1,6 +1,8 @@
 //! A reader or a writer that keeps the reason of its last error.
 //! A contract sees it as the stream that it wraps.
-ghost use Rattle.std.specs.Prelude.{◌≡◌};
+ghost use Rattle.std.specs.Prelude.{◌≡◌, OnOk, IfErr};
+ghost use Rattle.std.specs.IoError.{error_kind, raw_os_error};
+ghost use Rattle.ele_words.specs.SystemError.{reason_after};
 
 use crate::system_reason::{SystemReason, system_reason};
 use std::io;
@@ -31,7 +33,10 @@ impl<T: Drop> KeepsError<T> {
 impl<T: Drop> KeepsError<T> {
     // Keeps the reason of an error. An interrupted call is no failure, as it is tried again.
     fn note<A>(&mut self, done: &io::Result<A>)
-        ensures { self.new.end ≡ self.old.end }
+        ensures end { self.new.end ≡ self.old.end }
+        ensures ok { OnOk done.now (self.new.failed ≡ self.old.failed) }
+        ensures err { IfErr done.now (λ error. self.new.failed
+            ≡ reason_after self.old.failed (error_kind error) (raw_os_error error)) }
     {
         if let Err(error) = done
             && error.kind() != ErrorKind::Interrupted

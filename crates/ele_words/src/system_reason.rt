@@ -1,10 +1,11 @@
 //! Why a reader or a writer failed, and the lines that report it.
 //! A contract sees a reason as itself, and what the writer holds then.
-ghost use Rattle.std.specs.Prelude.{◌≡◌, Some};
-ghost use Rattle.std.specs.IoError.{error_kind};
+ghost use Rattle.std.specs.Prelude.{◌≡◌};
+ghost use Rattle.std.specs.IoError.{error_kind, raw_os_error};
 ghost use Rattle.ele_output.specs.Outlet.{Reports};
 ghost use Rattle.ele_output.specs.Prints.{Prints, outlet};
 ghost use Rattle.ele_words.specs.Status.{fault_status};
+ghost use Rattle.ele_words.specs.SystemError.{reason_by, reason_by_number};
 ghost use Rattle.ele_words.specs.SystemReason.{failed_text, reason_line};
 
 use crate::failure::{Failure, status};
@@ -33,25 +34,26 @@ pub enum SystemReason {
 
 /// Returns the reason of the system's error, if it is one of these.
 pub(crate) fn system_reason(error: &io::Error) -> Option<SystemReason>
-    ensures directory { error_kind error.now ≡ ErrorKind.IsADirectory
-        → result ≡ Some SystemReason.IsDirectory }
-    ensures space { error_kind error.now ≡ ErrorKind.StorageFull
-        → result ≡ Some SystemReason.NoSpace }
-    ensures pipe { error_kind error.now ≡ ErrorKind.BrokenPipe
-        → result ≡ Some SystemReason.BrokenPipe }
-    ensures permission { error_kind error.now ≡ ErrorKind.PermissionDenied
-        → result ≡ Some SystemReason.NotPermitted }
+    ensures { result ≡ reason_by (error_kind error.now) (raw_os_error error.now) }
 {
     match error.kind() {
         ErrorKind::IsADirectory => Some(SystemReason::IsDirectory),
         ErrorKind::StorageFull => Some(SystemReason::NoSpace),
         ErrorKind::BrokenPipe => Some(SystemReason::BrokenPipe),
         ErrorKind::PermissionDenied => Some(SystemReason::NotPermitted),
-        _ => match error.raw_os_error() {
-            Some(5) => Some(SystemReason::Device),
-            Some(9) => Some(SystemReason::NotOpen),
-            _ => None,
-        },
+        _ => reason_by_number(error.raw_os_error()),
+    }
+}
+
+// The reason by the number that the system gave the error.
+fn reason_by_number(code: Option<i32>) -> Option<SystemReason>
+    ensures { result ≡ reason_by_number code }
+{
+    match code {
+        // EIO, and EBADF.
+        Some(5) => Some(SystemReason::Device),
+        Some(9) => Some(SystemReason::NotOpen),
+        _ => None,
     }
 }
 
