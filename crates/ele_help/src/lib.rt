@@ -1,5 +1,5 @@
 //! The texts of `elephant help TOPIC`: the commands of scripts, policies, limits, refusals, and each command.
-//! A contract sees a text and no more: what it says is tested.
+//! A contract says which words have help. What a text says is tested.
 #![tactic(auto)]
 
 mod errors;

@@ -1,5 +1,8 @@
 //! The help on a topic: a page, or what one command does.
-ghost use Rattle.std.specs.Prelude.{◌<◌};
+ghost use Rattle.std.specs.Prelude.{◌≡◌, ◌<◌, IfOk, is_some};
+ghost use Rattle.std.specs.List.{list_any};
+ghost use Rattle.std.specs.Option.{option_map};
+ghost use Rattle.ele_help.specs.Topics.{has_help, is_command, is_named};
 
 use crate::errors::errors_help;
 use crate::pages::{LIMITS, POLICIES};
@@ -9,7 +12,10 @@ use ele_commands::{Command, HELP, ROWS, Row};
 use std::alloc::{AllocError, Global};
 
 // Whether one word or two name a command: `open` names two commands.
-fn is_named(row: &Row, first: &str, second: Option<&str>) -> bool {
+fn is_named(row: &Row, first: &str, second: Option<&str>) -> bool
+    ensures { result ≡ is_named first.now (option_map (λ word. word.now) second.entry)
+        row.now.1.now row.now.2.now }
+{
     let (_, one, two, _, _) = *row;
     match second {
         Some(second) => one == first && two == second,
@@ -43,8 +49,24 @@ fn put_command(text: &mut String, row: &Row) -> Result<(), AllocError> {
     text.push_str(example)
 }
 
-// Returns the help on each command that the words name, or an empty text.
-fn command_help(alloc: Global, first: &str, second: Option<&str>) -> Result<String, AllocError> {
+// Whether the words name a command.
+fn is_command(first: &str, second: Option<&str>) -> bool
+    ensures { result ≡ is_command first.now (option_map (λ word. word.now) second.entry) }
+{
+    has_named(&ROWS, first, second)
+}
+
+// Whether they name one of these.
+fn has_named(rows: &[Row], first: &str, second: Option<&str>) -> bool
+    ensures { result
+        ≡ list_any (λ row. is_named first.now (option_map (λ word. word.now) second.entry)
+        row.1.now row.2.now) rows.now }
+{
+    rows.iter().any(|row| is_named(row, first, second))
+}
+
+// Returns the help on each command that the words name.
+fn put_commands(alloc: Global, first: &str, second: Option<&str>) -> Result<String, AllocError> {
     let mut text = String::new(alloc);
     for row in ROWS.iter() {
         if is_named(row, first, second) {
@@ -54,17 +76,38 @@ fn command_help(alloc: Global, first: &str, second: Option<&str>) -> Result<Stri
     Ok(text)
 }
 
-/// Returns the help on a topic, or on each command that the words name. The text is empty if there is no such
-/// topic and no such command.
-pub fn topic_help(alloc: Global, first: &str, second: Option<&str>) -> Result<String, AllocError> {
+// The same, or None if they name no command.
+fn command_help(
+    alloc: Global,
+    first: &str,
+    second: Option<&str>,
+) -> Result<Option<String>, AllocError>
+    ensures { IfOk result
+        (λ help. is_some help ≡ is_command first.now (option_map (λ word. word.now) second.entry)) }
+{
+    if !is_command(first, second) {
+        return Ok(None);
+    }
+    Ok(Some(put_commands(alloc, first, second)?))
+}
+
+/// Returns the help on a page's word, or on each command that the words name. None if they are no such words.
+pub fn topic_help(
+    alloc: Global,
+    first: &str,
+    second: Option<&str>,
+) -> Result<Option<String>, AllocError>
+    ensures { IfOk result
+        (λ help. is_some help ≡ has_help first.now (option_map (λ word. word.now) second.entry)) }
+{
     if second.is_some() {
         return command_help(alloc, first, second);
     }
     match first {
-        "script" => script_help(alloc),
-        "refusals" => errors_help(alloc),
-        "policies" => String::from_str(alloc, POLICIES),
-        "limits" => String::from_str(alloc, LIMITS),
+        "script" => Ok(Some(script_help(alloc)?)),
+        "refusals" => Ok(Some(errors_help(alloc)?)),
+        "policies" => Ok(Some(String::from_str(alloc, POLICIES)?)),
+        "limits" => Ok(Some(String::from_str(alloc, LIMITS)?)),
         _ => command_help(alloc, first, second),
     }
 }

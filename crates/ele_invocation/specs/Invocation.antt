@@ -1,6 +1,7 @@
 -- What the program's words ask for.
 use Rattle.std.specs.Prelude.{◌≡◌, ◌≢◌, ◌⊎◌, Bool, true, false, List, [], ◌∷◌, Option, MatchBool, MatchOption, slice_get, unwrap_or, codes}
 use Rattle.std.specs.Str.{bytes_eq}
+use Rattle.ele_help.specs.Topics.{has_help}
 use Rattle.ele_model.specs.Bounds.{largest_bounds}
 use Rattle.ele_invocation.specs.Program.{commands_for, program_app}
 use Rattle.ele_invocation.specs.Runs.{AsksRun, options_of}
@@ -48,14 +49,12 @@ IsForecast rows (Forecast ask) = AsksForecast rows ask
 IsForecast rows NoMemory = Unit {0}
 IsForecast rows asked = Refuses (AsksForecast rows) asked
 
--- a text of help, or a refusal; no clause says on which topics there is help
-abbrev pub IsHelp : Invocation → Type 0
-IsHelp (Run limits options) = ⊥
-IsHelp (Storm plan) = ⊥
-IsHelp (Forecast ask) = ⊥
-IsHelp (Help text) = Unit {0}
-IsHelp (NotUnderstood text) = Unit {0}
-IsHelp NoMemory = Unit {0}
+-- help on words that have some, and a refusal of others; or there was no memory for the text
+abbrev pub IsHelp : Bool → Invocation → Type 0
+IsHelp true (Help text) = Unit {0}
+IsHelp false (NotUnderstood text) = Unit {0}
+IsHelp has NoMemory = Unit {0}
+IsHelp has asked = ⊥
 
 -- what a command asks for by its matches
 abbrev pub IsCommand : Text → List Row → Invocation → Type 0
@@ -63,7 +62,7 @@ IsCommand name rows asked =
     MatchBool (bytes_eq name (codes "run")) (IsRun rows asked)
     (MatchBool (bytes_eq name (codes "storm")) (IsStorm rows asked)
     (MatchBool (bytes_eq name (codes "forecast")) (IsForecast rows asked)
-    (MatchBool (bytes_eq name (codes "script")) (IsHelp asked) (IsRefusal asked))))
+    (MatchBool (bytes_eq name (codes "script")) (IsHelp true asked) (IsRefusal asked))))
 
 -- an error of clap: help and the version are shown, and all others refuse the words
 abbrev pub IsShown : ErrorKind → Invocation → Type 0
@@ -95,4 +94,4 @@ command_in words = subcommand_of (app_for words) words
 
 -- the words ask for the help on a topic, or for what clap reads in them
 abbrev pub IsAsked : List Text → Invocation → Type 0
-IsAsked words asked = MatchOption (topic_in words) (IsRead (faults_in words) (command_in words) asked) (λ topic. IsHelp asked)
+IsAsked words asked = MatchOption (topic_in words) (IsRead (faults_in words) (command_in words) asked) (λ topic. IsHelp (has_help topic.0 topic.1) asked)

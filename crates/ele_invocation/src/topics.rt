@@ -1,5 +1,6 @@
 //! `elephant help TOPIC`, which clap knows nothing of.
 ghost use Rattle.std.specs.Prelude.{◌≡◌, map, option_map, string_bytes};
+ghost use Rattle.ele_help.specs.Topics.{has_help};
 ghost use Rattle.ele_invocation.specs.Invocation.{IsHelp};
 ghost use Rattle.ele_invocation.specs.Topics.{is_left_to_clap, topic_in};
 
@@ -24,11 +25,11 @@ fn is_left_to_clap(first: &str) -> bool
 
 /// Returns the help on a topic or a command, or a refusal if there is none.
 pub(crate) fn asked_topic(alloc: Global, first: &str, second: Option<&str>) -> Invocation
-    ensures { IsHelp result }
+    ensures { IsHelp (has_help first.now (option_map (λ word. word.now) second.entry)) result }
 {
     match topic_help(alloc, first, second) {
-        Ok(text) if text.is_empty() => not_understood(alloc, NO_TOPIC),
-        Ok(text) => Invocation::Help(text),
+        Ok(Some(text)) => Invocation::Help(text),
+        Ok(None) => not_understood(alloc, NO_TOPIC),
         Err(_) => Invocation::NoMemory,
     }
 }
