@@ -1,0 +1,13 @@
+pub mod Forms
+pub mod Grouped
+pub mod Numbers
+pub mod Lists
+pub mod Values
+pub mod Policies
+pub mod Rows
+pub mod Cells
+pub mod Loops
+pub mod Contents
+pub mod Worlds
+pub mod Sums
+pub mod Checkpoints

@@ -1,0 +1,11 @@
+pub mod Reading
+pub mod Number
+pub mod Lists
+pub mod Values
+pub mod Rows
+pub mod Cells
+pub mod Contents
+pub mod Whole
+pub mod Fits
+pub mod Sum
+pub mod Checkpoint

@@ -1,0 +1,10 @@
+use Rattle.ele_well_formed.proofs.Words.{is_version_of, list_any, map, nat_cmp, VersionRow, ℕ, ◌==◌, ◌∙◌, ◌≡◌}
+use Rattle.std.proofs.lemmas.Result.{IfOk-weaker}
+use Rattle.std.specs.BTreeSet.{contains}
+use Rattle.ele_well_formed.proofs.NumberSets.{held_files_are}
+use Rattle.ele_well_formed.proofs.lives.held_files.Goals as goal
+
+pub returns : goal.returns
+returns c =
+    let items : c.deref.result.now ≡ map (λ (row : VersionRow). row.file) c.args.versions.now = c.deref.ensures.value ∙ c.in_ok-ids.ensures in
+    IfOk-weaker c.set_of.result (λ set. (q : ℕ) → contains nat_cmp set q ≡ list_any (λ n. n == q) c.deref.result.now) (λ set. (q : ℕ) → contains nat_cmp set q ≡ list_any (is_version_of q) c.args.versions.now) (λ set has q. (rw items at (has q)) ∙ held_files_are c.args.versions.now q) c.set_of.ensures
