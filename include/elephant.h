@@ -174,7 +174,8 @@ int32_t elephant_open_largest(elephant *e, uint32_t history);
 /* Drops the store and frees its memory; you can open the handle again. A closed handle stays closed. */
 void elephant_close(elephant *e);
 
-/* Returns the detail of ELEPHANT_FORGOTTEN and ELEPHANT_FULL. NO_RESULT after any other answer. */
+/* Returns the detail of ELEPHANT_FORGOTTEN and ELEPHANT_FULL. NO_RESULT after any other answer. A call that returns 64 to 70 has no
+ * answer: the one before it stays. */
 int32_t elephant_detail(const elephant *e, uint64_t *detail);
 
 /* ---- Lines of the script language ---- */

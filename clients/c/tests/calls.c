@@ -515,6 +515,12 @@ static void a_version_is_read_by_moment_and_by_number_or_not_at_all(void) {
     CODE(ELEPHANT_FORGOTTEN, elephant_read(e, TEXT("/f"), ELEPHANT_AT, 10, &length));
     OK(elephant_detail(e, &detail));
     WANT(detail == 2);
+    /* A call of the handle itself has no answer, so the one before it stays; an argument that isn't valid has one. */
+    CODE(ELEPHANT_NO_HISTORY, elephant_trim(e, &length));
+    OK(elephant_detail(e, &detail));
+    WANT(detail == 2);
+    CODE(ELEPHANT_BAD_PATH, elephant_create(e, TEXT("f"), &length));
+    CODE(ELEPHANT_NO_RESULT, elephant_detail(e, &detail));
     CODE(ELEPHANT_FORGOTTEN, elephant_revert(e, TEXT("/f"), 3, &length));
     OK(elephant_now(e, &length));
     elephant_delete(e);
