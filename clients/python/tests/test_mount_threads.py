@@ -173,6 +173,25 @@ class Rewritings(Parts):
         before = it.all()
         self.assertEqual(super().mount().all(), before)
 
+    def test_who_asks_for_it_gets_a_journal_without_what_was_removed(self) -> None:
+        it = self.mount()
+        it.save(b"f", b"secret")
+        it.store.line("default / one")
+        it.store.line("policy /f one")
+        it.save(b"f", b"public")
+        it.store.tick(1)
+        while it.store.clean():
+            pass
+        for number in range(9):
+            it.save(b"%d" % number, os.urandom(5000))
+        before = it.all()
+        self.assertIn(b"736563726574", self.journal.read_bytes())
+        self.assertNotEqual(self.rewriting.run(), "")  # it would be as long as before
+        self.assertRegex(self.rewriting.run_and_tell(), r"ok journal \d+ \d+\n$")
+        self.assertNotIn(b"736563726574", self.journal.read_bytes())
+        self.assertEqual(it.all(), before)
+        self.assertEqual(super().mount().all(), before)
+
     def test_owner_and_mode_stay(self) -> None:
         self.fill(self.mount())
         os.chmod(self.journal, 0o640)

@@ -51,9 +51,10 @@ class Rewriting:
             self.run()
 
     def run_and_tell(self) -> str:
-        """Rewrites the journal, and returns a text with the old and the new length."""
+        """Rewrites the journal even if it stays as long, so that it has nothing of what was removed. Returns a text with the old and the
+        new length."""
         before = self.store.journal_size
-        fault = self.store.stopped or self.run()
+        fault = self.store.stopped or self.run(is_asked=True)
         return f"elephant-mount: {fault}\n" if fault else f"ok journal {before} {self.store.journal_size}\n"
 
     def stop(self) -> None:
@@ -63,17 +64,17 @@ class Rewriting:
         if process is not None:
             process.terminate()
 
-    def run(self) -> str:
-        """Rewrites the journal. Returns why it didn't, or an empty text."""
+    def run(self, is_asked: bool = False) -> str:
+        """Rewrites the journal if that makes it shorter, or if somebody asked for it. Returns why it didn't, or an empty text."""
         # Two at once would write one file.
         if not self._turn.acquire(blocking=False):
             return "it is being made anew already"
         try:
-            return self._run()
+            return self._run(is_asked)
         finally:
             self._turn.release()
 
-    def _run(self) -> str:
+    def _run(self, is_asked: bool) -> str:
         with self.operations.lock:
             path, size = self.store.journal_path, self.store.journal_size
             self._tried = size
@@ -82,7 +83,7 @@ class Rewriting:
             _clear(new)
             fault = self._make(path, size, new)
             if not fault:
-                fault = self._take(path, size, new)
+                fault = self._take(path, size, new, is_asked)
         except (ElephantError, OSError) as lack:
             fault = str(lack)
         _clear(new)
@@ -104,7 +105,7 @@ class Rewriting:
             self._process = None
         return "" if process.returncode == 0 and said == "ok\n" else lack.strip() or f"it ended with {process.returncode}"
 
-    def _take(self, path: str, size: int, new: str) -> str:
+    def _take(self, path: str, size: int, new: str, is_asked: bool) -> str:
         """Adds the changes since then to the new journal, and replaces the old one. Returns why it didn't, or an empty text."""
         journal, is_taken = Journal(new, False, 5.0), False
         try:
@@ -114,7 +115,7 @@ class Rewriting:
                 if self._is_stopped or self.store.is_closed or not self.store.has_place:
                     return "the folder is unmounted, or its journal isn't at its place"
                 before = self.store.journal_size
-                if journal.size + before - size > 0.9 * before:
+                if not is_asked and journal.size + before - size > 0.9 * before:
                     return NOT_SHORTER
                 for change in changes_in(path, before, size):
                     journal.append(change)
