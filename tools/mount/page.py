@@ -1,4 +1,5 @@
-"""Runs the commands in the blocks of `console` of docs/MOUNT.md, and compares their output with the page, where each time is another."""
+"""Runs the commands in the blocks of `console` of docs/MOUNT.md and then of docs/FAQ.md, and compares their output with the pages, where
+each time is another."""
 
 import argparse
 import os
@@ -9,6 +10,7 @@ from pathlib import Path
 from gate.building import ROOT
 from mount import mounts
 
+PAGES = [ROOT / "docs" / it for it in ("MOUNT.md", "FAQ.md")]
 MARK = "== command"
 TIME = re.compile(r"\d{4}-\d\d-\d\d \d\d:\d\d:\d\d [+-]\d\d:\d\d")
 
@@ -23,8 +25,8 @@ def commands_in(page: str) -> list[tuple[str, str]]:
 
 
 def page(room: str, asked: argparse.Namespace) -> mounts.Counts:
-    """Runs the page's commands. Returns how many there are, and how many outputs differ."""
-    words = commands_in((ROOT / "docs" / "MOUNT.md").read_text(encoding="utf-8"))
+    """Runs the commands of both pages. Returns how many there are, and how many outputs differ."""
+    words = [it for path in PAGES for it in commands_in(path.read_text(encoding="utf-8"))]
     command = Path(room, "bin", "elephant-mount")
     command.parent.mkdir()
     command.write_text(f'#!/bin/sh\nexec {mounts.python()} -m elephant.mount "$@"\n')
@@ -40,7 +42,7 @@ def page(room: str, asked: argparse.Namespace) -> mounts.Counts:
     for (typed, wanted), output in zip(words, printed):
         if TIME.sub("TIME", output) != TIME.sub("TIME", wanted):
             wrong += 1
-            print(f"mount: docs/MOUNT.md: {typed!r} prints {output!r}, and not {wanted!r}")
+            print(f"mount: the pages: {typed!r} prints {output!r}, and not {wanted!r}")
     if wrong:
-        print(f"mount: docs/MOUNT.md: {ran.stderr[-500:]}")
+        print(f"mount: the pages: {ran.stderr[-500:]}")
     return len(words), wrong

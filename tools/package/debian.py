@@ -62,7 +62,7 @@ def of_python(wheel: Path) -> Laid:
 def documents() -> Laid:
     """Returns the documents and examples, as they lie in the tree."""
     chosen = [it for it in sources.files() if it.startswith(("docs/", "examples/")) and not it.endswith(".1")]
-    laid: Laid = {f"{DOCUMENTS}/{it}": LaidFile(0o644, (ROOT / it).read_bytes()) for it in ["README.md", *chosen]}
+    laid: Laid = {f"{DOCUMENTS}/{it}": LaidFile(0o644, (ROOT / it).read_bytes()) for it in ["README.md", "tools/README.md", *chosen]}
     date = format_datetime(datetime.datetime.fromtimestamp(sources.epoch(), datetime.timezone.utc))
     laid[f"{DOCUMENTS}/changelog.gz"] = packed((ROOT / "CHANGELOG.md").read_bytes())
     changes = CHANGES.format(version=version(), maintainer=MAINTAINER, date=date)

@@ -1,5 +1,5 @@
-"""What tools/pages/prose finds on a page: long sentences, words that hide a plainer one, links and names that lead nowhere, and pages that
-no other page links to."""
+"""What tools/pages/prose finds on a page: links and names that lead nowhere, pages that no other page links to, figures that the tree
+hasn't, long sentences, and words that hide a plainer one. And how many words and sentences a page has."""
 
 import re
 from collections import Counter
@@ -7,12 +7,15 @@ from collections.abc import Iterable, Iterator, Mapping
 from pathlib import PurePosixPath
 from typing import NamedTuple
 
+from pages.prose_figures import FIGURES, Counted
 from pages.prose_names import WORD, Tree
 from pages.prose_pages import MARK, Page, Piece
 
-# The longest sentence, in words. A span of code is one, a sign is none.
+# A sentence with more words is long. A span of code is one word, a sign is none.
 LONGEST = 30
 COUNTED = re.compile(rf"[\w{MARK}]")
+# The end of a sentence that is one: a stop, or the colon before an example.
+WHOLE = re.compile(r"[.?!:][\"')*\]]*\s*$")
 # After these words `where` asks for a place.
 PLACES = "".join(f"(?<!{it} )" for it in ("know", "knows", "say", "says", "see", "show", "shows", "place", "places", "from"))
 # A word or phrase, and a plainer one.
@@ -36,8 +39,10 @@ WARNED = [
 TURNS = re.compile("|".join(rf"(?P<w{number}>\b(?:{pattern})\b)" for number, (pattern, _) in enumerate(WARNED)), re.I)
 # The words that name a crate after a path in it.
 OF_CRATE = re.compile(r"(?: \([^)]*\))? of `(?:crates/)?(\w+)`")
-KINDS = ("long", "words", "links", "names", "unlisted")
-TOP_PAGE = "README.md"
+# The kinds that are faults, and those that are only counted, since a good sentence may have either.
+FAULTS, COUNTS = ("links", "names", "unlisted", "figures"), ("long", "words")
+KINDS = (*FAULTS, *COUNTS)
+TOP_PAGE, CHANGES = "README.md", "CHANGELOG.md"
 # The paths of the pages of each group.
 GROUPS = {
     "top": r"[^/]+\.md",
@@ -49,10 +54,6 @@ GROUPS = {
     "tools": r"tools/.+\.md",
     "examples": r"(examples|include)/.+",
 }
-
-
-# How many findings of each kind, in the order of KINDS, each group has.
-Counts = Mapping[str, tuple[int, ...]]
 
 
 class Finding(NamedTuple):
@@ -67,11 +68,16 @@ class Finding(NamedTuple):
         return f"{self.page}:{self.line}: {self.kind}: {self.text}"
 
 
+def words_in(sentence: str) -> int:
+    """Returns how many words a sentence has."""
+    return sum(1 for it in sentence.split() if COUNTED.search(it))
+
+
 def long_sentences(page: Page) -> Iterator[Finding]:
-    """Yields each sentence that is too long."""
+    """Yields each long sentence."""
     for piece in page.pieces:
         for place, sentence in piece.sentences():
-            count = sum(1 for it in sentence.split() if COUNTED.search(it))
+            count = words_in(sentence)
             if count > LONGEST:
                 begin = place + len(sentence) - len(sentence.lstrip())
                 head = " ".join(piece.text[begin:begin + 60].split())
@@ -153,14 +159,32 @@ def unlisted_pages(pages: Mapping[str, Page]) -> Iterator[Finding]:
             yield Finding("unlisted", name, 1, "no other page links to it")
 
 
+def false_figures(page: Page, counted: Counted) -> Iterator[Finding]:
+    """Yields each figure that isn't what the tree has."""
+    for piece in page.pieces:
+        for figure in FIGURES:
+            for found in figure.form.finditer(piece.text):
+                said, wanted = int(found[1].replace(",", "")), counted.of(figure)
+                if said not in wanted:
+                    has = " or ".join(f"{it:,}" for it in sorted(wanted))
+                    yield Finding("figures", page.name, piece.line_of(found.start()), f"{found[0]}: {has} {figure.name} are there")
+
+
 def findings(pages: Mapping[str, Page], tree: Tree) -> list[Finding]:
     """Returns all that is found on the pages, by page and line."""
-    found = list(unlisted_pages(pages))
+    found, counted = list(unlisted_pages(pages)), Counted(tree)
     for page in pages.values():
         found += [*long_sentences(page), *warned_words(page), *lost_names(page, tree)]
         if page.is_markdown:
             found += broken_links(page, pages, tree)
+        if is_now(page.name):
+            found += false_figures(page, counted)
     return sorted(found, key=lambda it: (it.page, it.line, KINDS.index(it.kind)))
+
+
+def is_now(name: str) -> bool:
+    """Whether a page is about the tree as it is, and not as it was."""
+    return name != CHANGES
 
 
 def group_of(name: str) -> str | None:
@@ -168,23 +192,39 @@ def group_of(name: str) -> str | None:
     return next((group for group, form in GROUPS.items() if re.fullmatch(form, name)), None)
 
 
+class Size(NamedTuple):
+    """How much text there is: words by hand, which no tool prints, sentences by hand that end as one, with their words, and words that a
+    tool prints."""
+
+    words: int
+    sentences: int
+    of_sentences: int
+    printed: int
+
+    def mean(self) -> float:
+        """Returns how many words a sentence has."""
+        return self.of_sentences / max(self.sentences, 1)
+
+
+def size_of(page: Page) -> Size:
+    """Returns how much text a page has. A heading or a cell without a stop is no sentence."""
+    total_size = [0, 0, 0, 0]
+    for piece in page.pieces:
+        for _, sentence in piece.sentences():
+            words, ends = words_in(sentence), bool(WHOLE.search(sentence))
+            is_printed = piece.line in page.printed
+            for at, count in enumerate((0, 0, 0, words) if is_printed else (words, ends, words * ends, 0)):
+                total_size[at] += count
+    return Size(*total_size)
+
+
+def total(sizes: Iterable[Size]) -> Size:
+    """Returns the sum of sizes."""
+    listed = list(sizes)
+    return Size(*(sum(it[at] for it in listed) for at in range(len(Size._fields))))
+
+
 def counts_of(found: Iterable[Finding]) -> dict[str, tuple[int, ...]]:
-    """Returns the counts of each group, in the order of KINDS."""
+    """Returns how many findings of each kind, in the order of KINDS, each group has."""
     counted = Counter((group_of(it.page), it.kind) for it in found)
     return {group: tuple(counted[group, kind] for kind in KINDS) for group in GROUPS}
-
-
-def wrong_counts(counts: Counts, allowed: Counts) -> Iterator[tuple[str, str, int, int]]:
-    """Yields the group, the kind, the count and the allowance of each count that isn't just what is allowed."""
-    for group, numbers in counts.items():
-        for kind, count, most in zip(KINDS, numbers, allowed[group]):
-            if count != most:
-                yield group, kind, count, most
-
-
-def lowered(text: str, counts: Counts, allowed: Counts) -> str:
-    """Returns the text of the table of allowances with each number that is above its count lowered to it."""
-    for group, numbers in counts.items():
-        row = ", ".join(str(min(pair)) for pair in zip(numbers, allowed[group]))
-        text = re.sub(rf'^    "{group}": \([\d, ]+\),$', f'    "{group}": ({row}),', text, flags=re.M)
-    return text

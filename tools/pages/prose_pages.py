@@ -6,7 +6,7 @@ link is its text. Both keep their places, so that a place in the prose is the sa
 """
 
 import re
-from collections.abc import Iterator
+from collections.abc import Iterator, Sequence
 from typing import NamedTuple
 
 MARK = "\x01"
@@ -17,6 +17,8 @@ NAMED = re.compile(r'\]\(([^()\s]+)\), "([^"]+)"')
 ITEM = re.compile(r"(\s*)(?:[-*+]|\d+\.) (.*)")
 HEADING = re.compile(r"#{1,6} (.*)")
 RULER = re.compile(r"[|:\s-]+$")
+# The comments around what a tool prints.
+BEGINS, ENDS = re.compile(r"<!-- (?:Printed by |begin: )"), re.compile(r"<!-- (?:End of |end -->)")
 # What ends a sentence: no abbreviation does, and no dots in a row.
 END = re.compile(r"(?<![.?!])[.?!][\"')*\]]*(?=\s)")
 ABBREVIATION = re.compile(r"(?:\b(?:e\.g|i\.e|etc|vs|cf|resp))\.$")
@@ -67,6 +69,15 @@ def cells_of(row: str) -> list[str]:
     ends = [it.start() for it in re.finditer(r"(?<!\\)\|", masked(row))] + [len(row)]
     cells = [row[begin + 1:end].strip() for begin, end in zip(ends, ends[1:])]
     return cells if cells and cells[-1] else cells[:-1]
+
+
+def printed_lines(lines: Sequence[str]) -> set[int]:
+    """Returns the numbers of the lines that a tool prints."""
+    found, is_printed = set(), False
+    for number, line in enumerate(lines, start=1):
+        is_printed = (is_printed or bool(BEGINS.match(line))) and not ENDS.match(line)
+        found.update([number] if is_printed else [])
+    return found
 
 
 def slug(heading: str) -> str:
@@ -165,6 +176,7 @@ class Page:
         # The text of its blocks of code.
         self.code = "\n".join(reader.codes)
         self.anchors = {slug(it) for it in self.titles}
+        self.printed = printed_lines(lines)
 
     def links(self) -> Iterator[tuple[int, str, str]]:
         """Yields the line and the target of each link, and the heading that the text names after it, if there is one."""

@@ -5,13 +5,15 @@ from collections.abc import Callable, Iterable, Iterator
 from pathlib import Path
 
 from pages.prose_checks import (
-    Finding, broken_links, counts_of, findings, long_sentences, lost_names, lowered, unlisted_pages, warned_words, wrong_counts,
+    KINDS, Finding, Size, broken_links, counts_of, false_figures, findings, long_sentences, lost_names, size_of, total, unlisted_pages,
+    warned_words,
 )
+from pages.prose_figures import Counted
 from pages.prose_names import Tree
 from pages.prose_pages import Page, cells_of, slug
 
 FILES = {
-    "README.md": "# Top\n\n[A page](docs/PAGE.md), and [a crate](crates/ele_low).\n",
+    "README.md": "# Top\n\n[A page](docs/PAGE.md), [another](docs/TRUST.md), and [a crate](crates/ele_low).\n",
     "docs/PAGE.md": "# A page\n\n## What isn't `so`\n",
     "crates/ele_low/README.md": "# ele_low\n",
     "crates/ele_high/README.md": "# ele_high\n\n[Itself](README.md), [another tree](https://example.org/crates/ele_high/README.md).\n",
@@ -22,6 +24,10 @@ FILES = {
     "crates/ele_low/src/words.rt": 'const WORDS: [&str; 2] = ["run", "strict"];\n',
     "examples/note.c": "int main(void);\n",
     "tools/look": "words.add_argument('--aside')\n",
+    "crates/ele_low/must-fail/a.edit": "", "crates/ele_low/must-fail-long/b.edit": "", "crates/ele_low/must-fail-long/c.edit": "",
+    "tests/low_calls/src/a.rt.txt": "#[test]\nfn a() {}\n\n#[test]\nfn b() {}\n",
+    "docs/TRUST.md": "# Trust\n\n| all of the core | 1461 | 98 | | |\n",
+    "tools/pages/questions.txt": "# What\nWhat is it? | README.md | Top | a page\nWhy? | README.md | Top | a crate\n",
 }
 THIRTY = " ".join(["word"] * 30)
 LONG = f"31 words: {THIRTY[:59]}.."
@@ -61,7 +67,14 @@ words = of_page(lambda page, tree: warned_words(page))
 names = of_page(lost_names)
 in_high = of_page(lost_names, "crates/ele_high/README.md")
 linked = of_page(links)
-COUNTS = {"top": (1, 2, 0, 0, 0)}
+figures = of_page(lambda page, tree: false_figures(page, Counted(tree)))
+
+
+def size(_: Tree, text: str) -> Size:
+    """Returns the size of a page of that text."""
+    return size_of(Page(PAGE, text))
+
+
 # What each case shows, how it looks at which text, and what it has to find.
 CASES: list[tuple[str, Look, str, object]] = [
     ("a sentence of 31 words", long, f"Short.\n\nTwo\nlines. {THIRTY} word.", [(4, LONG)]),
@@ -113,19 +126,23 @@ CASES: list[tuple[str, Look, str, object]] = [
     ("links that lead somewhere", linked, "[a](PAGE.md#what-isnt-so) [b](../crates/ele_low)\n[d](PAGE.md), \"What isn't so\"", []),
     ("links to others, and code", linked, "[c](https://a.b/c) `[e](f)`", []),
     ("pages that no page links to", unlisted, "", ["crates/ele_high/README.md"]),
-    ("all kinds at once", kinds, f"{THIRTY} `lost_call` told [a](b)", ["long", "words", "links", "names", "unlisted"]),
+    ("all kinds at once", kinds, f"{THIRTY} `lost_call` told [a](b) 9 wrong bodies", [*KINDS]),
+    ("figures", figures, "4 wrong bodies, 12 wrong bodies.\nThe core takes 97 minutes.\n\n- 3 questions", [
+        (1, "4 wrong bodies: 1 or 2 or 3 wrong bodies are there"), (1, "12 wrong bodies: 1 or 2 or 3 wrong bodies are there"),
+        (2, "core takes 97 minutes: 98 minutes to read the core are there"), (4, "3 questions: 2 questions of a user are there")]),
+    ("figures that are right", figures, "1 wrong body, 2 wrong bodies, all 3 wrong bodies. The core takes 98 minutes.\n\n2 questions", []),
+    ("figures of tests", figures, "3 tests, 2 minutes on a machine, 2 tests, 2 minutes on it", [
+        (1, "3 tests, 2 minutes on: 2 tests of tests/ are there")]),
+    ("words and sentences", size, "# A page\n\nTwo words. `a b` - (so):\n\n- An item\n\n    no word\n", Size(8, 2, 4, 0)),
+    ("printed words", size, "One.\n<!-- Printed by x: y. -->\n\n| a b. | c |\n|---|---|\n\n<!-- End of y. -->\nTwo\n", Size(2, 1, 1, 3)),
+    ("sums of sizes", lambda _, __: total([Size(7, 4, 6, 0), Size(1, 1, 1, 3)]), "", Size(8, 5, 7, 3)),
     ("comments of C", lines_of(lambda page, tree: warned_words(page), "a.h"), "/* It\n * tells. */\nint told;  // comes\n", [2, 3]),
     ("comments of Python", lines_of(lambda page, tree: warned_words(page), "a.py"),
      'told = """It\ncame."""\n\ndef tell():\n    """It\n\n    stands."""\n    # gone\n', [7, 8]),
     ("comments of Rattle", lines_of(lambda page, tree: warned_words(page), "a.rt.txt"), "//! It tells.\nlet told = 1; // such\n", [1, 2]),
     ("cells", lambda _, text: cells_of(text), r"| a | `b|c` | d \| e |", ["a", "`b|c`", r"d \| e"]),
     ("anchors", lambda _, text: slug(text), "What isn't `so`, [or](a.md) is", "what-isnt-so-or-is"),
-    ("counts", lambda _, __: counts_of([])["docs"], "", (0, 0, 0, 0, 0)),
-    ("counts as allowed", lambda _, __: list(wrong_counts(COUNTS, COUNTS)), "", []),
-    ("counts above and below", lambda _, __: list(wrong_counts(COUNTS, {"top": (0, 3, 0, 0, 0)})), "",
-     [("top", "long", 1, 0), ("top", "words", 2, 3)]),
-    ("only what is above its count is lowered", lambda _, text: lowered(text, COUNTS, {"top": (0, 3, 0, 0, 0)}),
-     '    "top": (0, 3, 0, 0, 0),\n', '    "top": (0, 2, 0, 0, 0),\n'),
+    ("counts", lambda _, __: counts_of([Finding("names", PAGE, 1, "")])["docs"], "", (0, 1, 0, 0, 0, 0)),
 ]
 
 

@@ -12,7 +12,7 @@ from pages.surface_regions import Tree
 PARTS = (surface_calls, surface_python, surface_rust, surface_docs)
 PRINTED = [
     HEADER, surface_calls.SOURCE, *surface_python.PRINTED, *surface_rust.PRINTED, surface_docs.SCRIPT, surface_docs.ERRORS,
-    surface_docs.DRIVE, surface_docs.LIBRARY, *surface_docs.OF_EVENTS, *surface_version.PRINTED,
+    surface_docs.LIBRARY, *surface_docs.OF_EVENTS, *surface_version.PRINTED,
 ]
 
 

@@ -1,4 +1,4 @@
-"""What tools/pages/surface prints in the documents: tables of commands, limits and errors, and the words of docs/DRIVE.md's program."""
+"""What tools/pages/surface prints in the documents: tables of commands, limits and errors."""
 
 import re
 from collections.abc import Iterator
@@ -6,10 +6,9 @@ from collections.abc import Iterator
 from gate.building import match_in
 from pages import surface_words as words
 from pages.surface_facts import ASKS, ERRORS as HELP_ERRORS, HELP_PAGES, STEP, Command, Facts
-from pages.surface_python import questions
 from pages.surface_regions import Tree, joined, region_in, with_region
 
-SCRIPT, ERRORS, DRIVE, LIBRARY = (f"docs/{it}.md" for it in ("SCRIPT", "ERRORS", "DRIVE", "LIBRARY"))
+SCRIPT, ERRORS, LIBRARY = (f"docs/{it}.md" for it in ("SCRIPT", "ERRORS", "LIBRARY"))
 FROM_COMMANDS = "ROWS and HELP of ele_commands/src/command.rt; the last column is kept by hand"
 FROM_LIMITS = "ele_model/src/limits.rt and the limits of lines, runs, names and contents"
 FROM_ERRORS = "ele_help/src/errors.rt"
@@ -26,8 +25,6 @@ ROWS_FOLLOW = re.compile(r"After ((?:`ok [^`]*`(?:, | and )?)+), K rows follow")
 LISTS = re.compile(r"ok (\w+)((?: F)?) (?:K|4), then ")
 # Refusals of looking something up: a path, a version, a handle. They don't stand in a command's own line of the plan.
 OF_LOOK_UPS = {"IsRoot", "NoEntry", "NotDirectory", "IsDirectory", "Future", "NoVersion", "Forgotten", "NoHandle", "NotWriter"}
-# A trim frees memory when the driver's journal is run again, so its journal has it.
-OF_JOURNAL = {"trim"}
 
 
 # Commands.
@@ -117,7 +114,7 @@ def followed(facts: Facts, told: str) -> str:
     return joined([*(it for it in found if it in wanted), *(it for it in wanted if it not in found)])
 
 
-# Errors, and the program of docs/DRIVE.md.
+# Errors.
 
 
 def errors(tree: Tree, facts: Facts) -> str:
@@ -134,25 +131,12 @@ def lists_of(facts: Facts) -> list[tuple[str, str]]:
     return [(it[1], f"{it[2]} K".strip()) for it in found if it]
 
 
-def drive(tree: Tree, facts: Facts) -> str:
-    """Returns the page with both lists of its program."""
-    lists = {
-        "QUESTIONS": [it for it in questions(facts) if it not in OF_JOURNAL],
-        "WITH_ROWS": [word for word, _ in lists_of(facts) if word != "answers"],
-    }
-    text = tree[DRIVE]
-    for name, items in lists.items():
-        old = match_in(rf"(?m)^{name} = .*\n", text)[0]
-        text = text.replace(old, f"{name} = {{{', '.join(f'{chr(34)}{it}{chr(34)}' for it in items)}}}\n")
-    return text
-
-
 def made(tree: Tree, facts: Facts) -> dict[str, str]:
     """Returns each page with its printed regions."""
     counted = {it: re.sub(r"\b([Ee]ach of the) \d+ events", rf"\1 {facts.events} events", tree[it]) for it in OF_EVENTS}
     most = joined(f"{it.most:,} {it.word}" for it in facts.limits)
     counted[LIBRARY] = re.sub(r"(?<=\. The largest are )\d[^.]*", most, tree[LIBRARY])
-    return {SCRIPT: script(tree, facts), ERRORS: errors(tree, facts), DRIVE: drive(tree, facts), **counted}
+    return {SCRIPT: script(tree, facts), ERRORS: errors(tree, facts), **counted}
 
 
 # What is compared.

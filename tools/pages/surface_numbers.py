@@ -13,15 +13,14 @@ PYTHON, RUST = "clients/python/src/elephant", "clients/rust/src"
 NUMBERS = {
     "content": [
         (HEADER, r"content has at most ([\d,]+) bytes"), (HEADER, r"longer than ([\d,]+) bytes"), (REFUSAL, r"longer than ([\d,]+) bytes"),
-        (ERRORS, r"longer than ([\d,]+) bytes"), ("docs/DRIVE.md", r"content has at most ([\d,]+) bytes"),
-        ("docs/DRIVE.md", r"MOST_BYTES, MOST_LINES, PIECE = (\S+),"), ("docs/EMBED.md", r"content has at most ([\d,]+) bytes"),
+        (ERRORS, r"longer than ([\d,]+) bytes"), ("docs/FAQ.md", r"([\d,]+) bytes \(1 MiB\)"),
+        ("docs/EMBED.md", r"content has at most ([\d,]+) bytes"),
         ("docs/MOUNT.md", r"\| a file \| ([\d,]+) bytes"), (place_of(RUST, "LARGEST_CONTENT: usize"), r"LARGEST_CONTENT: usize = ([^;]+);"),
         ("tools/program/twin_rows.py", r"LONGEST = (\d+ << \d+)"),
     ],
     "name": [
         (HEADER, r"name has 1 to (\d+) bytes"), (ERRORS, r"a name has 1 to (\d+) bytes"), ("README.md", r"a name (\d+) bytes"),
         ("docs/SCRIPT.md", r"A name has 1 to (\d+) bytes"), ("docs/EMBED.md", r"a name (\d+) bytes"),
-        ("docs/DRIVE.md", r"a name (\d+) bytes"),
         ("docs/MOUNT.md", r"\| a name \| (\d+) bytes"), (place_of(PYTHON, "\nMOST_NAME ="), r"MOST_NAME = (\d+)"),
     ],
     "names": [
@@ -30,7 +29,7 @@ NUMBERS = {
     ],
     "line": [(ERRORS, r"line has more than ([\d,]+) bytes"), ("docs/SCRIPT.md", r"has at most ([\d,]+) bytes from space")],
     "lines": [
-        (ERRORS, r"more than ([\d,]+) lines"), ("docs/DRIVE.md", r"MOST_BYTES, MOST_LINES, PIECE = \S+, (\S+),"),
+        (ERRORS, r"more than ([\d,]+) lines"),
         ("docs/SCRIPT.md", r"a byte follows ([\d,]+) lines"), ("tools/program/large_scripts", r"MOST_LINES, MOST_BYTES = (\S+),"),
     ],
     "bytes": [
@@ -42,11 +41,15 @@ NUMBERS = {
         ("docs/MODEL.md", r"seconds since 1970-01-01T00:00:00Z, at most (\d+)"), ("tools/program/twin_rows.py", r"LAST_MOMENT = (\d+)"),
         ("tools/program/fuzz_lines", r"LAST_MOMENT = (\d+)"), (place_of(PYTHON, "\nLAST_MOMENT ="), r"LAST_MOMENT = (\d+)"),
     ],
-    "files": [("README.md", r"versions and ([\d,]+) files"), ("docs/MOUNT.md", r"\| files ever made \| ([\d,]+)")],
+    "files": [
+        ("README.md", r"versions and ([\d,]+) files"), ("docs/FAQ.md", r"versions and ([\d,]+) files"),
+        ("docs/MOUNT.md", r"\| files ever made \| ([\d,]+)"),
+    ],
     "directories": [("docs/MOUNT.md", r"\| directories ever made \| ([\d,]+)")],
     "made names": [("docs/MOUNT.md", r"\| names ever given[^|]* \| ([\d,]+)")],
     "versions": [
         ("README.md", r"at most ([\d,]+) versions"), ("docs/DECISIONS.md", r"A core makes at most ([\d,]+) versions"),
+        ("docs/FAQ.md", r"at most ([\d,]+) versions"),
         ("docs/MOUNT.md", r"\| versions ever made[^|]* \| ([\d,]+) each"),
     ],
     "handles": [("docs/MOUNT.md", r"times that a file was opened to be changed \| ([\d,]+) each")],
