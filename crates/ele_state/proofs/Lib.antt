@@ -14,9 +14,6 @@ pub mod Marked
 pub mod Made
 pub mod Fresh
 pub mod Removed
-pub mod Saved
-pub mod Unmade
-pub mod MadeSaved
 pub mod ClosedSteps
 pub mod ClosedSums
 pub mod DroppedFiles

@@ -48,7 +48,3 @@ pub mod NameRowsStay
 pub mod ChangeKeeps
 pub mod CloseKeeps
 pub mod RevertKeeps
-pub mod SaveReads
-pub mod SaveIsSession
-pub mod RestoreReads
-pub mod AbandonLeaves
