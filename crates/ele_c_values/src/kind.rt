@@ -20,11 +20,10 @@ pub enum Kind {
     Mark,
     Stat,
     Rung,
-    Counts,
 }
 
 // The kinds in the order of their numbers, which is that of the type.
-static KINDS: [Kind; 16] = [
+static KINDS: [Kind; 15] = [
     Kind::Now,
     Kind::Detail,
     Kind::History,
@@ -40,7 +39,6 @@ static KINDS: [Kind; 16] = [
     Kind::Mark,
     Kind::Stat,
     Kind::Rung,
-    Kind::Counts,
 ];
 
 /// Returns the kind of a number, if there is one.

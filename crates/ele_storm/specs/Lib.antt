@@ -3,4 +3,3 @@ pub mod Halves
 pub mod Rounds
 pub mod Storm
 pub mod Work
-pub mod Making

@@ -25,7 +25,6 @@ def _struct(name: str, fields: str) -> type[Structure]:
 
 # Printed by tools/pages/surface --write: the rows, from include/elephant.h.
 LimitsRow = _struct("LimitsRow", "events files directories names versions handles groups members marks")
-CountsRow = _struct("CountsRow", "events files directories names versions handles groups members marks")
 StatRow = _struct("StatRow", "is_directory id version opened closed ended length policy seconds floor rungs")
 VersionRow = _struct("VersionRow", "number opened closed ended length")
 NameRow = _struct("NameRow", "directory is_directory id name_length")
@@ -43,11 +42,11 @@ _PARTS: dict[str, list[type]] = {
 }
 # Printed by tools/pages/surface --write: the calls, from include/elephant.h.
 _CALLS = {
-    "open": "out word", "open_largest": "word", "detail": "out", "counts": "out", "line": "text out", "tell": "out",
-    "answer": "number into out", "now": "out", "clock": "number", "tick": "number", "mkdir": "text out", "rmdir": "text",
-    "create": "text out", "link": "text text", "unlink": "text", "rename": "text text", "undelete": "text out", "open_write": "text out",
-    "write": "number number text", "truncate": "number number", "close_handle": "number out", "revert": "text number out",
-    "open_read": "text word number out", "read": "text word number out", "read_handle": "number out", "take": "number into out",
+    "open": "out word", "open_largest": "word", "detail": "out", "line": "text out", "tell": "out", "answer": "number into out",
+    "now": "out", "clock": "number", "tick": "number", "mkdir": "text out", "rmdir": "text", "create": "text out", "link": "text text",
+    "unlink": "text", "rename": "text text", "undelete": "text out", "open_write": "text out", "write": "number number text",
+    "truncate": "number number", "close_handle": "number out", "revert": "text number out", "open_read": "text word number out",
+    "read": "text word number out", "read_handle": "number out", "take": "number into out",
     "read_into": "text word number number into out out", "read_handle_into": "number number into out out", "stat": "text word number out",
     "rung": "number out out", "versions": "text word number out", "row_version": "number out", "list": "text word number out",
     "restorable": "out", "row_name": "number out", "row_bytes": "number into out", "due": "out", "ahead": "number out",

@@ -68,7 +68,7 @@ class Lines:
             changes: Changes = []
             try:
                 try:
-                    with self.store.quota.undoing(words[0] in _UNDOING):
+                    with self.store.counts.undoing(words[0] in _UNDOING):
                         text = self._undo(words) if words[0] == "undo" else self._line(words)
                 finally:  # the store may have done what the journal couldn't take
                     changes = [] if words[0] in _ASK | _SHORT else list(self._refreshed(words))
@@ -116,8 +116,9 @@ class Lines:
         answer = self.store.line(" ".join(words))
         if word in ("clean", "pass"):
             self.store.forget_names()
-        if answer.startswith("ok ") and word == "undelete":
-            self.store.quota.note_return()
+        if answer.startswith("ok ") and word not in _ASK and word != "close":
+            self.store.counts.take_line(" ".join(words).encode("ascii", "replace"))
+            self.store.counts.used["versions"] += answer.startswith("ok version ") and word == "undelete"
         return answer
 
     def _own_handles(self) -> set[str]:

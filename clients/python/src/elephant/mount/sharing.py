@@ -11,8 +11,9 @@ from collections.abc import Iterator
 from itertools import chain, count
 from typing import NamedTuple
 
-from .. import JournalError
+from .. import JournalError, Limits
 from ..keeping import Core
+from .counts import Counts
 from .records import Records
 from .witness import Witness
 
@@ -64,7 +65,7 @@ class Sharing(Witness):
     """Runs a journal, and notes the slots of what is held."""
 
     def __init__(self, core: Core) -> None:
-        super().__init__(core, Records())
+        super().__init__(core, Records(), Counts(Limits()))
         self.contents: dict[Version, Content] = {}
         """Of each held version."""
         self.drafts: dict[int, Draft] = {}
@@ -109,8 +110,6 @@ class Sharing(Witness):
         word, *words = line.split(b" ")
         if word in (b"clean", b"pass"):
             return self.remove(1 if word == b"clean" else int(words[0]))
-        if word == b"undelete":
-            return self.undelete(words[0])
         code = super().command(line)
         if not code and word in (b"create", b"revert"):
             row = self.core.stat(words[0], words[0])
@@ -119,7 +118,7 @@ class Sharing(Witness):
         return code
 
     def undelete(self, path: bytes) -> int:
-        code: int = self.library.elephant_undelete(self.core.handle, path, len(path), self.core.number_at)
+        code = super().undelete(path)
         number = self.core.number
         if not code and number:
             file = int(self.core.stat(path, path).id)
