@@ -3,11 +3,8 @@
  *     elephant *e;
  *     elephant_new(&e);                                            // NULL if there is no memory
  *     elephant_open_largest(e, 0);                                 // a fresh store
- *     uint64_t file, handle, version, length;
- *     elephant_create(e, "/f", 2, &file);
- *     elephant_open_write(e, "/f", 2, &handle);
- *     elephant_write(e, handle, 0, "abc", 3);
- *     elephant_close_handle(e, handle, &version);                  // version 2: the file was made with an empty version 1
+ *     uint64_t version, length;
+ *     elephant_save(e, "/f", 2, "abc", 3, &version);               // version 2: the file is made with an empty version 1
  *     elephant_read(e, "/f", 2, ELEPHANT_NOW, 0, &length);         // keeps the bytes in e
  *     char text[16]; uint64_t copied;
  *     elephant_take(e, 0, text, sizeof text, &copied);             // copies them out, in pieces if need be
@@ -69,7 +66,7 @@ typedef struct elephant elephant;
 enum elephant_code {
     ELEPHANT_OK = 0,
 
-    /* The command was not run. Without a history elephant_clock, elephant_tick, elephant_clean and elephant_pass never stop. */
+    /* The command was not run. Without a history elephant_clock, _tick, _abandon, _clean and _pass never stop. */
     ELEPHANT_NO_MEMORY = 1,        /* there was no memory */
     ELEPHANT_HISTORY_FULL = 2,     /* the history has as many events as it may; only with a history */
 
@@ -250,9 +247,24 @@ int32_t elephant_truncate(elephant *e, uint64_t handle, uint64_t size);
 /* Closes a handle, for writing or reading. *version: the number of the version that the close made, or 0. NO_HANDLE. */
 int32_t elephant_close_handle(elephant *e, uint64_t handle, uint64_t *version);
 
+/* Ends a handle for writing. If it was the last one that writes the file, the draft is removed and makes no version.
+ * NO_HANDLE, NOT_WRITER. */
+int32_t elephant_abandon(elephant *e, uint64_t handle);
+
+/* Makes the bytes the next version of the file, whole or not at all, without a handle and a draft. *version: its number. If the path
+ * names nothing, it makes the file, with an empty version 1 before this one. NO_ENTRY, NOT_DIRECTORY, IS_ROOT, IS_DIRECTORY, TOO_BIG,
+ * DRAFTING, FULL; BAD_PATH, BAD_NAME. */
+int32_t elephant_save(elephant *e, const void *path, size_t len, const void *bytes, size_t bytes_len, uint64_t *version);
+
 /* Makes a new version of the file with the content of the version of that number. *version: the new number.
  * NO_ENTRY, NOT_DIRECTORY, IS_DIRECTORY, NO_VERSION, FORGOTTEN, DRAFTING, FULL; BAD_PATH, BAD_NAME. */
 int32_t elephant_revert(elephant *e, const void *path, size_t len, uint64_t number, uint64_t *version);
+
+/* Makes what the path held at that moment the newest version of the file at the path. *version: its number. If the path named nothing
+ * then, it is what the file that it names now held. If it names nothing now, the file of that version has the name again; if that
+ * has another name, a new file gets the bytes. NO_ENTRY, NOT_DIRECTORY, IS_ROOT, IS_DIRECTORY, FUTURE, FORGOTTEN, DRAFTING, FULL;
+ * BAD_PATH, BAD_NAME, BAD_MOMENT. */
+int32_t elephant_restore(elephant *e, const void *path, size_t len, uint64_t moment, uint64_t *version);
 
 /* ---- Reading ----
  * A path and a tag mean a version: the current one, the one at a past moment, or one by its number. Each call with a tag may return

@@ -184,6 +184,21 @@ def term_at(text: str, place: int) -> str:
     raise LookupError(f"no bracket ends {text[place:place + 60]!r}")
 
 
+def whole_plans(text: str) -> dict[str, str]:
+    """Returns the lines of the plan of each event, with those of the plans that they name."""
+    named = dict(re.findall(r"^abbrev pub (\w+) : .*→ Plan\n((?:\1 .*\n(?:    .*\n)*)+)", text, re.M))
+    named.pop("plan", None)
+
+    def whole(body: str) -> str:
+        return re.sub(r"\w+", lambda it: whole(named[it[0]].partition("=\n")[2]) if it[0] in named else it[0], body)
+
+    found: dict[str, str] = {}
+    for variant, lines in equations(text, "plan"):
+        variant = variant.replace("ListNames", "List")
+        found[variant] = found.get(variant, "") + whole(lines)
+    return found
+
+
 def makes_in(equation: str) -> Iterator[str]:
     """Yields the changes of each outcome of an equation of the plan, as they are spelled there. A reply precedes them."""
     for found in re.finditer(r"\bMake ", equation):
@@ -214,9 +229,7 @@ def commands_of(tree: Tree, limits: list[Limit], refusals: list[str]) -> list[Co
         raise LookupError(f"{COMMAND}: {len(rows)} rows and {len(told)} of help")
     events = {command: event for event, command in re.findall(r"^parts_of \(?event\.(\w+).* = \(command\.(\w+),", tree[PARTS], re.M)}
     asking = {event for event, value in equations(tree[ASKS], "asks") if value.rstrip().endswith("= true")}
-    plan: dict[str, str] = {}
-    for variant, lines in equations(tree[STEP], "plan"):
-        plan[variant.replace("ListNames", "List")] = plan.get(variant, "") + lines
+    plan = whole_plans(tree[STEP])
     raised, order = raised_by(tree), [it.word for it in limits]
     found = []
     for (name, first, second, kinds, when), (topic, answer) in zip(rows, told):

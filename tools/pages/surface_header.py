@@ -14,7 +14,7 @@ from pages.surface_regions import Tree, joined, with_region
 HEADER = "include/elephant.h"
 # The numbers of a row of codes, and the comment above them.
 GROUPS = {
-    "stop": "The command was not run. Without a history elephant_clock, elephant_tick, elephant_clean and elephant_pass never stop.",
+    "stop": "The command was not run. Without a history elephant_clock, _tick, _abandon, _clean and _pass never stop.",
     "refusal": "The store refused the command. elephant_detail returns the detail of {detailed}.",
     "line": "An argument is not valid. If several are not, the code is that of the first one.",
     "handle": "The handle itself.",

@@ -41,7 +41,8 @@ NAMED_IN_PYTHON = ["NoEntry"]
 
 # What docs/SCRIPT.md says of a limit in place of the help. `{makers}` are the commands that raise its count.
 LIMITS_OF_SCRIPT = {
-    "directories": "directories ever made, without the root", "names": "names ever made: one by each {makers}",
+    "directories": "directories ever made, without the root",
+    "names": "names ever made: one by each {makers}, and by a `save` or `restore` that makes one",
     "versions": "versions ever made, and open drafts",
 }
 

@@ -320,12 +320,15 @@ class Twin:
         return "ok done"
 
     def do_create(self, path: str) -> str:
-        place = self.free_place(path)
+        return f"ok file {self.file_made(self.free_place(path))}"
+
+    def file_made(self, place: Place) -> int:
+        """Makes a file with an empty version, and returns its number."""
         self.last_file += 1
         self.files[self.last_file] = File(self.directories[place.directory])
         self.names.append(Name(place, Target("file", self.last_file), self.now))
         self.append(self.last_file, self.now, [])
-        return f"ok file {self.last_file}"
+        return self.last_file
 
     def do_link(self, path: str, to: str) -> str:
         file = self.file_at(path)
@@ -426,6 +429,64 @@ class Twin:
             return f"ok closed version {self.append(what.file, draft.opened, draft.slots)}"
         self.drop_idle(what.file)
         return "ok closed"
+
+    def do_abandon(self, word: str) -> str:
+        row, _ = self.written_by(word)
+        what = self.handles.pop(word)
+        if what not in self.handles.values():
+            row.draft = None
+            self.drop_idle(what.file)
+        return "ok done"
+
+    # Versions without a session.
+
+    def standing(self, place: Place) -> int | None:
+        """The number of the file at a place, if something is there."""
+        found = self.find(place)
+        check(found and found.target.kind == "directory", "IsDirectory")
+        return found.target.number if found else None
+
+    def do_save(self, path: str, word: str) -> str:
+        place = self.place_of(path)
+        file, data = self.standing(place), b"" if word == "-" else bytes.fromhex(word)
+        check(len(data) > LONGEST, "TooBig")
+        return self.saved(self.file_made(place) if file is None else file, data)
+
+    def saved(self, file: int, data: bytes) -> str:
+        """Makes bytes a file's next version, which shares nothing."""
+        return self.continued(file, rewritten([], data, lambda slot: True, self.files[file].next))
+
+    def continued(self, file: int, slots: Slots) -> str:
+        check(self.files[file].draft, "Drafting")
+        return f"ok version {self.append(file, self.now, slots)}"
+
+    def do_restore(self, path: str, word: str) -> str:
+        check(int(word) > self.now, "Future")
+        file, version = self.held_then(path, int(word))
+        place = self.place_of(path)
+        own, target = self.standing(place), Target("file", file)
+        if own is None and not self.is_live(target):
+            check(self.files[file].draft, "Drafting")
+            self.names.append(Name(place, target, self.now))
+            own = file
+        if own == file:
+            return self.continued(file, version.slots)
+        return self.saved(self.file_made(place) if own is None else own, content(version.slots))
+
+    def held_then(self, path: str, moment: int) -> tuple[int, Version]:
+        """What a path held at a moment; if it named nothing then, what the file that it names now held."""
+        try:
+            file = self.file_at(path, moment)
+        except No as no:
+            try:
+                file = self.file_at(path)
+            except No:
+                raise no from None
+            lived = [it for it in self.files[file].versions if it.lived(moment)]
+            if no.args[0] == "IsDirectory" or not lived:
+                raise
+            return file, lived[-1]
+        return file, self.by_moment(file, moment)
 
     def do_revert(self, path: str, number: str) -> str:
         file = self.file_at(path)

@@ -14,7 +14,8 @@ typedef struct inner_row {
 enum { CALL_CLOCK, CALL_TICK, CALL_MAKE_DIR, CALL_REMOVE_DIR, CALL_CREATE, CALL_LINK, CALL_UNLINK, CALL_RENAME, CALL_UNDELETE,
        CALL_OPEN_WRITE, CALL_OPEN_READ, CALL_WRITE, CALL_TRUNCATE, CALL_CLOSE, CALL_REVERT, CALL_SET_POLICY, CALL_SET_DEFAULT,
        CALL_GROUP_MAKE, CALL_GROUP_DROP, CALL_GROUP_ADD, CALL_GROUP_REMOVE, CALL_MARK, CALL_UNMARK, CALL_CLEAN_ONE, CALL_READ,
-       CALL_READ_HANDLE, CALL_STAT, CALL_VERSIONS, CALL_LIST_NAMES, CALL_RESTORABLE, CALL_DUE, CALL_USAGE_ALL, CALL_GROUPS_ALL };
+       CALL_READ_HANDLE, CALL_STAT, CALL_VERSIONS, CALL_LIST_NAMES, CALL_RESTORABLE, CALL_DUE, CALL_USAGE_ALL, CALL_GROUPS_ALL,
+       CALL_SAVE, CALL_ABANDON, CALL_RESTORE };
 enum { KIND_NOW, KIND_DETAIL, KIND_HISTORY, KIND_PASS, KIND_WHY, KIND_KEY, KIND_REMOVED, KIND_VERSION, KIND_NAME, KIND_USAGE,
        KIND_GROUP, KIND_MEMBER, KIND_MARK, KIND_STAT, KIND_RUNG };
 enum { BYTES_CONTENT, BYTES_TEXT, BYTES_NAME, BYTES_GROUP };
@@ -172,8 +173,21 @@ int32_t elephant_close_handle(elephant *e, uint64_t handle, uint64_t *version) {
     return inner_event(e, CALL_CLOSE, "", 0, "", 0, 0, handle, 0, version);
 }
 
+int32_t elephant_abandon(elephant *e, uint64_t handle) {
+    uint64_t value;
+    return inner_event(e, CALL_ABANDON, "", 0, "", 0, 0, handle, 0, &value);
+}
+
+int32_t elephant_save(elephant *e, const void *path, size_t len, const void *bytes, size_t bytes_len, uint64_t *version) {
+    return inner_event(e, CALL_SAVE, path, len, bytes, bytes_len, 0, 0, 0, version);
+}
+
 int32_t elephant_revert(elephant *e, const void *path, size_t len, uint64_t number, uint64_t *version) {
     return inner_event(e, CALL_REVERT, path, len, "", 0, 0, number, 0, version);
+}
+
+int32_t elephant_restore(elephant *e, const void *path, size_t len, uint64_t moment, uint64_t *version) {
+    return inner_event(e, CALL_RESTORE, path, len, "", 0, 0, moment, 0, version);
 }
 
 int32_t elephant_open_read(elephant *e, const void *path, size_t len, uint32_t tag, uint64_t number, uint64_t *handle) {

@@ -101,7 +101,10 @@ static void a_closed_handle_answers(void) {
     CODE(closed, elephant_write(e, 1, 0, TEXT("x")));
     CODE(closed, elephant_truncate(e, 1, 0));
     CODE(closed, elephant_close_handle(e, 1, &a));
+    CODE(closed, elephant_abandon(e, 1));
+    CODE(closed, elephant_save(e, TEXT("/f"), TEXT("x"), &a));
     CODE(closed, elephant_revert(e, TEXT("/f"), 1, &a));
+    CODE(closed, elephant_restore(e, TEXT("/f"), 0, &a));
     CODE(closed, elephant_open_read(e, TEXT("/f"), ELEPHANT_NOW, 0, &a));
     CODE(closed, elephant_read(e, TEXT("/f"), ELEPHANT_NOW, 0, &a));
     CODE(closed, elephant_read_handle(e, 1, &a));
@@ -265,6 +268,7 @@ static void the_first_of_two_bad_arguments_is_told(void) {
     CODE(ELEPHANT_BAD_NAME, elephant_rename(e, TEXT("/f"), TEXT("/a b")));
     CODE(ELEPHANT_BAD_PATH, elephant_read(e, TEXT("f"), ELEPHANT_AT, late, &number));
     CODE(ELEPHANT_BAD_NAME, elephant_versions(e, TEXT("/a b"), 7, 0, &number));
+    CODE(ELEPHANT_BAD_PATH, elephant_restore(e, TEXT("f"), late, &number));
     CODE(ELEPHANT_BAD_PATH, elephant_policy(e, TEXT("f"), TEXT("never")));
     CODE(ELEPHANT_BAD_NAME, elephant_default(e, TEXT("/a b"), TEXT("safe:0")));
     CODE(ELEPHANT_BAD_NAME, elephant_group_add(e, TEXT("a b"), TEXT("f")));
@@ -328,6 +332,101 @@ static void a_session_makes_one_version(void) {
     CODE(ELEPHANT_NO_VERSION, elephant_revert(e, TEXT("/f"), 6, &version));
     CODE(ELEPHANT_IS_DIRECTORY, elephant_open_write(e, TEXT("/"), &first));
     CODE(ELEPHANT_NO_ENTRY, elephant_open_write(e, TEXT("/g"), &first));
+    elephant_delete(e);
+}
+
+static void an_abandoned_draft_makes_no_version(void) {
+    elephant *e = with_file(0);
+    uint64_t first, second, reader, version, rows;
+    OK(elephant_open_write(e, TEXT("/f"), &first));
+    OK(elephant_open_write(e, TEXT("/f"), &second));
+    OK(elephant_write(e, first, 0, TEXT("x")));
+    /* The other handle keeps the draft. */
+    OK(elephant_abandon(e, first));
+    CODE(ELEPHANT_NO_HANDLE, elephant_abandon(e, first));
+    OK(elephant_read_handle(e, second, &rows));
+    CODE(ELEPHANT_DRAFTING, elephant_save(e, TEXT("/f"), TEXT("y"), &version));
+    OK(elephant_abandon(e, second));
+    HOLDS(e, "/f", ELEPHANT_NOW, 0, "two");
+    OK(elephant_versions(e, TEXT("/f"), ELEPHANT_NOW, 0, &rows));
+    WANT(rows == 3);
+    OK(elephant_open_read(e, TEXT("/f"), ELEPHANT_NOW, 0, &reader));
+    CODE(ELEPHANT_NOT_WRITER, elephant_abandon(e, reader));
+    OK(elephant_close_handle(e, reader, &version));
+    elephant_delete(e);
+}
+
+static void a_save_makes_one_version(void) {
+    elephant *e = with_file(0);
+    static char large[LARGEST + 1];
+    uint64_t number, version = 7;
+    OK(elephant_save(e, TEXT("/f"), TEXT("three"), &version));
+    WANT(version == 4);
+    HOLDS(e, "/f", ELEPHANT_NOW, 0, "three");
+    HOLDS(e, "/f", ELEPHANT_VERSION, 3, "two");
+    OK(elephant_save(e, TEXT("/f"), TEXT("three"), &version));
+    OK(elephant_save(e, TEXT("/f"), "", 0, &version));
+    WANT(version == 6);
+    HOLDS(e, "/f", ELEPHANT_NOW, 0, "");
+    /* A file that isn't there is made. */
+    OK(elephant_save(e, TEXT("/new"), TEXT("one"), &version));
+    WANT(version == 2);
+    HOLDS(e, "/new", ELEPHANT_VERSION, 1, "");
+    HOLDS(e, "/new", ELEPHANT_NOW, 0, "one");
+    OK(elephant_mkdir(e, TEXT("/d"), &number));
+    version = 7;
+    CODE(ELEPHANT_IS_DIRECTORY, elephant_save(e, TEXT("/d"), TEXT("x"), &version));
+    CODE(ELEPHANT_IS_ROOT, elephant_save(e, TEXT("/"), TEXT("x"), &version));
+    CODE(ELEPHANT_NO_ENTRY, elephant_save(e, TEXT("/x/y"), TEXT("x"), &version));
+    CODE(ELEPHANT_NOT_DIRECTORY, elephant_save(e, TEXT("/f/y"), TEXT("x"), &version));
+    CODE(ELEPHANT_TOO_BIG, elephant_save(e, TEXT("/f"), large, LARGEST + 1, &version));
+    CODE(ELEPHANT_TOO_BIG, elephant_save(e, TEXT("/none"), large, LARGEST + 1, &version));
+    CODE(ELEPHANT_NO_ENTRY, elephant_read(e, TEXT("/none"), ELEPHANT_NOW, 0, &number));
+    CODE(ELEPHANT_BAD_PATH, elephant_save(e, TEXT("f"), TEXT("x"), &version));
+    CODE(ELEPHANT_BAD_NAME, elephant_save(e, TEXT("/a b"), TEXT("x"), &version));
+    WANT(version == 7);
+    OK(elephant_save(e, TEXT("/f"), large, LARGEST, &version));
+    WANT(version == 7);
+    elephant_delete(e);
+}
+
+static void what_a_path_held_is_restored(void) {
+    elephant *e = with_file(0);
+    uint64_t version = 7, rows;
+    OK(elephant_clock(e, 20));
+    OK(elephant_restore(e, TEXT("/f"), 9, &version));
+    WANT(version == 4);
+    HOLDS(e, "/f", ELEPHANT_NOW, 0, "one");
+    OK(elephant_rename(e, TEXT("/f"), TEXT("/g")));
+    /* By its own past, and by that of the name. */
+    OK(elephant_restore(e, TEXT("/g"), 10, &version));
+    WANT(version == 5);
+    HOLDS(e, "/g", ELEPHANT_NOW, 0, "two");
+    OK(elephant_restore(e, TEXT("/f"), 9, &version));
+    WANT(version == 2);
+    HOLDS(e, "/f", ELEPHANT_NOW, 0, "one");
+    HOLDS(e, "/g", ELEPHANT_NOW, 0, "two");
+    OK(elephant_tick(e, 1));
+    OK(elephant_unlink(e, TEXT("/g")));
+    OK(elephant_restore(e, TEXT("/g"), 20, &version));
+    WANT(version == 6);
+    OK(elephant_versions(e, TEXT("/g"), ELEPHANT_NOW, 0, &rows));
+    WANT(rows == 6);
+    version = 7;
+    CODE(ELEPHANT_FUTURE, elephant_restore(e, TEXT("/g"), 22, &version));
+    CODE(ELEPHANT_NO_ENTRY, elephant_restore(e, TEXT("/none"), 9, &version));
+    CODE(ELEPHANT_NOT_DIRECTORY, elephant_restore(e, TEXT("/g/x"), 21, &version));
+    CODE(ELEPHANT_IS_DIRECTORY, elephant_restore(e, TEXT("/"), 9, &version));
+    CODE(ELEPHANT_BAD_MOMENT, elephant_restore(e, TEXT("/g"), LAST_MOMENT + 1, &version));
+    CODE(ELEPHANT_BAD_NAME, elephant_restore(e, TEXT("/a b"), 9, &version));
+    OK(elephant_open_write(e, TEXT("/g"), &rows));
+    CODE(ELEPHANT_DRAFTING, elephant_restore(e, TEXT("/g"), 20, &version));
+    OK(elephant_abandon(e, rows));
+    OK(elephant_policy(e, TEXT("/g"), TEXT("one")));
+    OK(elephant_pass(e, 9, &rows, &version));
+    version = 7;
+    CODE(ELEPHANT_FORGOTTEN, elephant_restore(e, TEXT("/g"), 20, &version));
+    WANT(version == 7);
     elephant_delete(e);
 }
 
@@ -915,6 +1014,9 @@ int main(void) {
     the_first_of_two_bad_arguments_is_told();
     some_names_do_not_come_back();
     a_session_makes_one_version();
+    an_abandoned_draft_makes_no_version();
+    a_save_makes_one_version();
+    what_a_path_held_is_restored();
     a_content_has_a_mebibyte_at_most();
     a_content_is_copied_straight_to_the_caller();
     a_copy_leaves_what_is_kept_and_the_history();

@@ -107,6 +107,14 @@ ATTEMPT(truncate_up, elephant_truncate(e, 4, 9000))
 ATTEMPT(close_changed, elephant_close_handle(e, 4, &out.number))
 ATTEMPT(close_reader, elephant_close_handle(e, 3, &out.number))
 ATTEMPT(revert, elephant_revert(e, TEXT("/f"), 2, &out.number))
+ATTEMPT(abandon, elephant_abandon(e, 4))
+ATTEMPT(save_over, elephant_save(e, TEXT("/f"), TEXT("xyz"), &out.number))
+ATTEMPT(save_large, elephant_save(e, TEXT("/f"), large, sizeof large, &out.number))
+ATTEMPT(save_none, elephant_save(e, TEXT("/f"), "", 0, &out.number))
+ATTEMPT(save_new, elephant_save(e, TEXT("/new"), large, 1000, &out.number))
+ATTEMPT(restore_own, elephant_restore(e, TEXT("/f"), 1, &out.number))
+ATTEMPT(restore_dead, elephant_restore(e, TEXT("/dead"), 1, &out.number))
+ATTEMPT(restore_left, elephant_restore(e, TEXT("/left"), 1, &out.number))
 ATTEMPT(open_read, elephant_open_read(e, TEXT("/f"), ELEPHANT_AT, 1, &out.number))
 ATTEMPT(read_now, elephant_read(e, TEXT("/f"), ELEPHANT_NOW, 0, &out.number))
 ATTEMPT(read_handle, elephant_read_handle(e, 4, &out.number))
@@ -144,7 +152,8 @@ static const struct attempt attempts[] = {
     NAMED(stat_directory), NAMED(versions),      NAMED(list),          NAMED(restorable),    NAMED(due),          NAMED(ahead),
     NAMED(usage),          NAMED(policy_one),    NAMED(policy_ladder), NAMED(default_safe),  NAMED(group_make),   NAMED(group_drop),
     NAMED(group_add),      NAMED(group_remove),  NAMED(mark),          NAMED(mark_until),    NAMED(unmark),       NAMED(groups),
-    NAMED(why),            NAMED(clean),         NAMED(read_into),     NAMED(read_handle_into),
+    NAMED(why),            NAMED(clean),         NAMED(read_into),     NAMED(read_handle_into), NAMED(abandon),   NAMED(save_over),
+    NAMED(save_large),     NAMED(save_none),     NAMED(save_new),      NAMED(restore_own),   NAMED(restore_dead), NAMED(restore_left),
 };
 
 /* A store in which each of these calls has something to do. */
@@ -159,8 +168,10 @@ static elephant *ready(uint32_t history) {
     OK(elephant_create(e, TEXT("/d/a"), &number));
     save(e, "/d/a", large, 5000);
     OK(elephant_create(e, TEXT("/dead"), &number));
+    OK(elephant_link(e, TEXT("/f"), TEXT("/left")));
     OK(elephant_tick(e, 10));
     OK(elephant_unlink(e, TEXT("/dead")));
+    OK(elephant_unlink(e, TEXT("/left")));
     OK(elephant_group_make(e, TEXT("g")));
     OK(elephant_group_add(e, TEXT("g"), TEXT("/f")));
     OK(elephant_mark(e, TEXT("g"), 5, ELEPHANT_NEVER));
@@ -364,6 +375,8 @@ static void bad_arguments_take_no_memory(void) {
     CODE(ELEPHANT_BAD_PATH, elephant_versions(e, TEXT("f"), 7, 0, &number));
     CODE(ELEPHANT_BAD_PATH, elephant_rename(e, TEXT("f"), TEXT("/g")));
     CODE(ELEPHANT_BAD_PATH, elephant_policy(e, TEXT("f"), TEXT("one")));
+    CODE(ELEPHANT_BAD_PATH, elephant_save(e, TEXT("f"), TEXT("x"), &number));
+    CODE(ELEPHANT_BAD_PATH, elephant_restore(e, TEXT("f"), late, &number));
     CODE(ELEPHANT_BAD_NAME, elephant_group_make(e, TEXT("a b")));
     CODE(ELEPHANT_BAD_NAME, elephant_group_add(e, TEXT("a b"), TEXT("/f")));
     CODE(ELEPHANT_BAD_PATH, elephant_group_add(e, TEXT("g"), TEXT("f")));
@@ -374,6 +387,9 @@ static void bad_arguments_take_no_memory(void) {
     CODE(ELEPHANT_BAD_MOMENT, elephant_clock(e, late));
     CODE(ELEPHANT_NO_HANDLE, elephant_truncate(e, 99, 0));
     CODE(ELEPHANT_NO_HANDLE, elephant_close_handle(e, 99, &number));
+    CODE(ELEPHANT_NO_HANDLE, elephant_abandon(e, 99));
+    CODE(ELEPHANT_NOT_WRITER, elephant_abandon(e, 3));
+    OK(elephant_abandon(e, 4));
     OK(elephant_now(e, &moment));
     OK(elephant_clock(e, moment + 1));
     WANT(!seen);

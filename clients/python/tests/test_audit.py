@@ -205,10 +205,10 @@ class Audits(unittest.TestCase):
             store.session("/d/f")
             store.rename("/d/f", "/g")
             # The event that opened the first reader is folded.
-            rows = [(2, 2, None), (3, 1, at(7)), (4, None, at(7))]
+            rows = [(1, 2, None), (2, 1, at(7)), (3, None, at(7))]
             self.assertEqual(store.handles(), [OpenHandle(handle, 1, version, since, "/g", b"/g") for handle, version, since in rows])
             store.unlink("/g")
-            self.assertEqual(store.handles()[2], OpenHandle(4, 1, None, at(7), None, None))
+            self.assertEqual(store.handles()[2], OpenHandle(3, 1, None, at(7), None, None))
 
     def test_only_with_a_history(self) -> None:
         with Store(clock="manual") as store:

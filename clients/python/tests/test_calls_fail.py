@@ -40,7 +40,9 @@ class Scene:
         store.mkdir("/d")
         store.mkdir("/empty")
         store.save("/d/f", b"one")
+        store.save("/was", b"was")
         store.clock(10)
+        store.unlink("/was")
         store.save("/d/f", b"two" * 700)
         store.save("/g", b"gone")
         store.unlink("/g")
@@ -95,10 +97,11 @@ def asks(line: str) -> Call:
     return lambda scene: scene.store.line(line)
 
 
-# The handles: the sessions are 6 and 7, the reader is 8.
+# The handles: the sessions are 1 and 2, the reader is 3.
 LINES = (
-    "tick 5", "clock 30", "mkdir /n", "create /n", "open write /d/f", "open read /d/f", "write 6 0 6162", "truncate 6 1",
-    "close 6", "close 8", "revert /d/f 1", "unlink /d/f", "undelete /g", "rename /l /m", "policy /d/f all", "group make m", "mark k 4",
+    "tick 5", "clock 30", "mkdir /n", "create /n", "open write /d/f", "open read /d/f", "write 1 0 6162", "truncate 1 1",
+    "close 1", "close 3", "abandon 1", "abandon 2", "abandon 3", "save /d/f 6162", "save /n -", "save /s 61", "restore /d/f 5",
+    "restore /was 5", "revert /d/f 1", "unlink /d/f", "undelete /g", "rename /l /m", "policy /d/f all", "group make m", "mark k 4",
     "clean", "pass 1", "pass 9",
     "create /d", "unlink /none", "none", "read /d/f", "restorable",
 )
@@ -124,7 +127,11 @@ ROWS: dict[type, dict[str, list[Call]]] = {
         "path_of": [lambda it: it.store.path_of(2)], "paths_of": [lambda it: it.store.paths_of(1)],
         "read": [lambda it: it.store.read("/d/f", version=2)],
         "reader": [lambda it: it.store.reader("/d/f", at=10)], "rename": [lambda it: it.store.rename("/d", "/e")],
-        "restorable": [lambda it: it.store.restorable()], "revert": [lambda it: it.store.revert("/d/f", 2)],
+        "restorable": [lambda it: it.store.restorable()],
+        "restore": [
+            lambda it: it.store.restore("/d/f", 5), lambda it: it.store.restore("/was", 5), lambda it: it.store.restore("/s", 10),
+        ],
+        "revert": [lambda it: it.store.revert("/d/f", 2)],
         "rmdir": [lambda it: it.store.rmdir("/empty")],
         "save": [
             lambda it: it.store.save("/d/m/f", b"new", parents=True), lambda it: it.store.save("/d/f", b"three"),
@@ -143,6 +150,7 @@ ROWS: dict[type, dict[str, list[Call]]] = {
         "why": [lambda it: it.store.why("/d/f", version=2)],
     },
     Session: {
+        "abandon": [lambda it: it.session.abandon(), lambda it: it.synced.abandon()],
         "close": [lambda it: it.session.close(), lambda it: it.synced.close()], "read": [lambda it: it.session.read()],
         "truncate": [truncated],
         "write": [written],

@@ -82,9 +82,14 @@ def fill(store: Store) -> Iterator[None]:
         session.write(b"three", 2)
         session.truncate(4)
     yield
+    with store.session("/d/f") as session:
+        session.write(b"given up")
+        session.abandon()
+    yield
     reader = store.reader("/d/f", at=10)
     yield
     store.revert("/d/f", 3)
+    store.restore("/d/f", 9)
     yield
     reader.close()
     yield
@@ -93,6 +98,8 @@ def fill(store: Store) -> Iterator[None]:
     store.unlink("/d/f")
     yield
     store.undelete("/d/f")
+    store.unlink("/d/f")
+    store.restore("/d/f", 9)
     yield
     store.pass_()
     yield
@@ -294,22 +301,30 @@ class Journals(unittest.TestCase):
             store.save("/f", b"abc")
             store.line("open write /f")
             typed = store.session("/f")
-            store.line("write 2 0 313131")
+            store.line("write 1 0 313131")
             typed.write(b"2", 1)
-            store.line("write 2 2 33")
-            self.assertRaisesRegex(elephant.Drafting, "^18 Drafting: /f$", store.save, "/f", b"x")
+            store.line("write 1 2 33")
+            long = b"xyz" * 3000
+            for content in (b"x", long):
+                self.assertRaisesRegex(elephant.Drafting, "^18 Drafting: /f$", store.save, "/f", content)
             typed.close()
-            self.assertRaisesRegex(elephant.Drafting, "the draft has the content", store.save, "/f", b"xyz")
-            store.line("write 2 1 34")
-            self.assertEqual((store.line("close 2"), store.read("/f")), ("ok closed version 3\n", b"x4z"))
+            self.assertRaisesRegex(elephant.Drafting, "^18 Drafting: /f$", store.save, "/f", b"x")
+            # A long content is written by a session, and then that is found out too late.
+            self.assertRaisesRegex(elephant.Drafting, "the draft has the content", store.save, "/f", long)
+            store.line("write 1 1 34")
+            self.assertEqual((store.line("close 1"), store.read("/f")), ("ok closed version 3\n", b"x4z" + long[3:]))
             before = state(store)
         with self.open() as store:
             self.assertEqual((state(store), store.recovered), (before, Recovered()))
 
     def test_an_exclusive_file_is_one_change(self) -> None:
-        with self.open() as store, store.open("/f", "xb") as file:
-            file.write(b"one")
-        self.assertEqual([line[9:10] for line in self.path.read_text().splitlines()], list("==<--->"))
+        with self.open() as store:
+            for path, content in (("/f", b"one"), ("/g", bytes(5000))):
+                with store.open(path, "xb") as file:
+                    file.write(content)
+            self.assertRaises(elephant.Exists, store.open, "/f", "xb")
+        # The second one has the lines create, open, two of write, truncate and close.
+        self.assertEqual([line[9:10] for line in self.path.read_text().splitlines()], list("===<---->"))
 
     def test_a_close_of_the_store_closes_its_sessions(self) -> None:
         with self.open() as store:
@@ -476,12 +491,12 @@ except JournalError:
                 self.assertEqual((store.read("/f"), len(store.versions("/f"))), (b"old", 2))
 
     def test_an_interrupted_change_ends_the_store(self) -> None:
-        for at in ("elephant_write", "elephant_close_handle"):
+        for at, times in (("elephant_save", 1), ("elephant_write", 2000), ("elephant_close_handle", 2000)):
             self.path.unlink(missing_ok=True)
             store = self.open()
             store.save("/f", b"old")
             with with_fault(store, at, KeyboardInterrupt):
-                self.assertRaises(KeyboardInterrupt, store.save, "/f", b"new")
+                self.assertRaises(KeyboardInterrupt, store.save, "/f", b"new" * times)
             self.assertRaises(JournalError, store.save, "/f", b"newer")
             self.assertEqual((store.read("/f"), len(store.versions("/f"))), (b"old", 2))
             store.close()
@@ -489,36 +504,82 @@ except JournalError:
                 self.assertEqual((store.read("/f"), len(store.versions("/f"))), (b"old", 2))
 
     def test_a_save_without_memory_makes_no_version(self) -> None:
-        """Each of its calls fails in turn, as if there were no memory. It is undone; the store goes on, and so does its journal."""
-        for call in ("elephant_open_write", "elephant_write", "elephant_truncate", "elephant_close_handle"):
+        """Each of its calls fails in turn, as if there were no memory. It is given up; the store goes on, and so does its journal."""
+        of_sessions = ("elephant_open_write", "elephant_write", "elephant_truncate", "elephant_close_handle")
+        for call, times in [("elephant_save", 1), *((it, 2000) for it in of_sessions)]:
             self.path.unlink(missing_ok=True)
             with self.open() as store:
                 store.save("/f", b"old and long")
                 with with_fault(store, call, NoMemory.number):
-                    self.assertRaises(NoMemory, store.save, "/f", b"new")
-                contents = {store.read("/f", version=it.number) for it in store.versions("/f")}
-                self.assertEqual((store.read("/f"), contents), (b"old and long", {b"", b"old and long"}))
-                self.assertEqual(store.save("/f", b"newer"), file_stat(store, "/f").version)
+                    self.assertRaises(NoMemory, store.save, "/f", b"new" * times)
+                contents = [store.read("/f", version=it.number) for it in store.versions("/f")]
+                self.assertEqual((store.read("/f"), contents), (b"old and long", [b"", b"old and long"]))
+                self.assertEqual(store.save("/f", b"newer"), 3)
                 before = state(store)
             with self.open() as store:
                 self.assertEqual(state(store), before)
 
-    def test_a_save_that_cannot_be_undone(self) -> None:
+    def test_a_save_that_cannot_be_given_up(self) -> None:
         """With a journal nothing is changed any more, and the save isn't there. In memory the file can't be saved any more."""
+        old = b"old and long" * 1000
         for path in (self.path, None):
             store = Store(journal=path, **QUICK)
-            store.save("/f", b"old and long")
-            with with_fault(store, "elephant_truncate", NoMemory.number, "elephant_read"):
-                self.assertRaises(NoMemory, store.save, "/f", b"new")
+            store.save("/f", old)
+            with with_fault(store, "elephant_truncate", NoMemory.number, "elephant_abandon"):
+                file = store.open("/f", "r+b")
+                file.write(b"new")
+                self.assertRaises(NoMemory, file.close)
             if path is None:
-                self.assertEqual((store.read("/f"), store.save("/g", b"x")), (b"old and long", 2))
+                self.assertEqual((store.read("/f"), store.save("/g", b"x")), (old, 2))
                 self.assertRaisesRegex(elephant.Drafting, "^18 Drafting: /f$", store.save, "/f", b"new")
                 continue
             self.assertRaises(JournalError, store.save, "/f", b"new")
-            self.assertEqual((store.read("/f"), len(store.versions("/f"))), (b"old and long", 2))
+            self.assertEqual((store.read("/f"), len(store.versions("/f"))), (old, 2))
             store.close()
             with self.open() as store:
-                self.assertEqual((store.read("/f"), len(store.versions("/f"))), (b"old and long", 2))
+                self.assertEqual((store.read("/f"), len(store.versions("/f"))), (old, 2))
+
+    def test_a_save_is_one_line(self) -> None:
+        """A longer one has the lines of a session, and all of them are one change."""
+        with self.open() as store:
+            for content in (b"one", b"", bytes(4092)):
+                size = self.path.stat().st_size
+                store.save("/f", content)
+                line = b"save /f " + (content.hex().encode() or b"-")
+                self.assertEqual(self.lines_after(size), [line])
+            size = self.path.stat().st_size
+            store.save("/f", bytes(4093))
+            self.assertEqual([it.split()[0] for it in self.lines_after(size)], [b"open", b"write", b"write", b"truncate", b"close"])
+            before = state(store)
+        with self.open() as store:
+            self.assertEqual(state(store), before)
+
+    def lines_after(self, size: int) -> list[bytes]:
+        """Returns the lines that follow the first bytes of the journal."""
+        return [it[11:] for it in self.path.read_bytes()[size:].splitlines()]
+
+    def test_an_abandoned_session_leaves_its_lines_out(self) -> None:
+        with self.open() as store:
+            store.save("/f", b"old")
+            size = self.path.stat().st_size
+            session = store.session("/f")
+            session.write(b"secret")
+            session.abandon()
+            self.assertEqual(self.lines_after(size), [b"open write /f", b"abandon 1"])
+            synced, other = store.session("/f"), store.session("/f")
+            synced.write(b"new")
+            store.sync()
+            synced.write(b"er", 3)
+            other.abandon()
+            synced.close()
+            synced = store.session("/f")
+            synced.write(b"gone")
+            store.sync()
+            synced.abandon()
+            before = state(store)
+            self.assertEqual((store.read("/f"), len(store.versions("/f"))), (b"newer", 3))
+        with self.open() as store:
+            self.assertEqual((state(store), store.recovered), (before, Recovered()))
 
     def test_many_threads_share_a_journal(self) -> None:
         faults: list[BaseException] = []

@@ -580,8 +580,9 @@ class Crafted(WithJournal):
         self.assertEqual(spelled(), HEADER)
 
     def test_lines_that_a_store_may_have(self) -> None:
-        for line in (b"write 1 0 -", b"write 1 0 61", b"open read /f", b"read /f", b"list /", b"pass 9", b"clean", b"#", b"# a remark"):
-            self.path.write_bytes(spelled((b"create /f",), (b"open write /f",), (line,)))
+        for line in (b"write 1 0 -", b"write 1 0 61", b"open read /f", b"read /f", b"list /", b"pass 9", b"clean", b"#", b"# a remark",
+                     b"abandon 1", b"save /g 61", b"save /g -", b"restore /g 0"):
+            self.path.write_bytes(spelled((b"create /f", b"create /g"), (b"open write /f",), (line,)))
             self.open().close()
 
     def test_lines_that_no_store_writes(self) -> None:
@@ -593,6 +594,8 @@ class Crafted(WithJournal):
             b"close 18446744073709551617", b"close 9", b"truncate 1", b"truncate 1 x", b"truncate 1 2 3", b"truncate 1 9999999999", b"open",
             b"open write", b"open write ", b"open write /f /f", b"open read /f@9", b"open read /f#9", b"open x /f", b"create", b"create /f",
             b"create //", b"create /\xff", b"create /g\r", b" create /g", b"x", b"clock -1", b"clock 9999999999999", b"tick", b"pass -1",
+            b"save /f 61", b"save /f", b"save /g 6", b"save /g 61 62", b"save g 61", b"restore /f 0",
+            b"restore /g 0", b"restore /f", b"abandon", b"abandon x", b"abandon 9", b"abandon 1 1",
             b"policy /f x", b"mark g 1", b"group", b"group x", b"history", b"rename /f", b"rename /f /f", b"#x", b"\x00", b"=", b"a" * 8000,
             b"a" * 8980,
         ):
@@ -645,7 +648,10 @@ class Crafted(WithJournal):
 
     def test_random_lines(self) -> None:
         rng = random.Random(7)
-        text = "create open write read close truncate group add make mark clock pass policy undelete revert /f /g 1 0 61 g # - safe:9"
+        text = (
+            "create open write read close abandon save restore truncate group add make mark clock pass policy undelete revert "
+            "/f /g 1 0 61 g # - safe:9"
+        )
         words = [*text.encode().split(), b"18446744073709551615", b"\xff", b""]
         opened = 0
         for _ in range(400):

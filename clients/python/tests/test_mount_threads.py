@@ -417,6 +417,34 @@ class Asking(Parts):
         self.assertEqual((text[:16], changes, b"d" in it.top.children), ("elephant-mount: ", [(it.top, b"d")], True))
 
 
+class Saves(Parts):
+    def test_lines_that_save_and_restore(self) -> None:
+        it = self.mount()
+        lines = Lines(self.operations)
+        used = it.store.counts.used
+        text, changes = lines.answer("save /new 6f6e65")
+        self.assertEqual((text, changes, it.read(b"new")), ("ok version 2\n", [(it.top, b"new")], b"one"))
+        self.assertEqual((used["files"], used["names"], used["versions"], used["handles"]), (1, 1, 2, 0))
+        node = it.file(b"new")
+        text, changes = lines.answer("save /new 74776f")
+        self.assertEqual((text, changes, it.read(b"new")), ("ok version 3\n", [(node, None)], b"two"))
+        self.assertEqual(lines.answer("save /%2E%2E 61")[0], "bad 28 BadName\n")
+        self.assertEqual(lines.answer("abandon 1")[0], "no 15 NoHandle\n")
+        it.open(node)
+        for line in ("save /new 61", "restore /new 0"):
+            self.assertEqual(lines.answer(line)[0][:30], "elephant-mount: a program has ")
+        it.contents.write(node, 0, b"x")
+        it.contents.save(node)
+        self.assertEqual(lines.answer(f"abandon {node.handle}")[0], "no 15 NoHandle\n")
+        it.contents.closed(node, True)
+        self.assertEqual(it.versions(b"new"), [b"", b"one", b"two", b"xwo"])
+        moment = int(it.store.now)
+        text, changes = lines.answer(f"restore /new {moment}")
+        self.assertEqual((text, it.read(b"new"), dict(used)), ("ok version 5\n", b"xwo", {**used, "versions": 5}))
+        before = dict(used)
+        self.assertEqual(self.mount().store.counts.used, before)
+
+
 class Words(Parts):
     def test_words_of_a_line(self) -> None:
         it = self.mount()

@@ -108,6 +108,34 @@ class Kept(Case):
         shorten(str(self.journal), size, str(self.new))
         session.close()
 
+    def test_by_what_was_restored(self) -> None:
+        """Version 2 of file 1 is removed. Its bytes are those of a version of file 2 too, and its blocks those of version 4."""
+        content = letters(7)
+        self.store.save("/f", content)
+        self.store.tick(10)
+        self.store.save("/f", letters(3))
+        self.store.rename("/f", "/g")
+        self.store.save("/f", b"another file")
+        self.store.tick(10)
+        self.store.restore("/f", DAY + 5)
+        self.store.restore("/g", DAY + 5)
+        self.assertEqual([self.store.read(it) for it in ("/f", "/g")], [content, content])
+        for path in ("/f", "/g"):
+            self.store.set_policy(path, KeepOne())
+        self.store.pass_()
+        self.assertEqual(self.anew(), (14, 14))
+
+    def test_a_removed_save_is_left_out(self) -> None:
+        for text in (b"first", b"second", b"third"):
+            self.store.tick(10)
+            self.store.save("/f", text * 100)
+        self.store.set_policy("/f", KeepOne())
+        self.store.pass_()
+        self.store.close()
+        shorten(str(self.journal), self.journal.stat().st_size, str(self.new))
+        lines = [it[11:] for it in self.new.read_bytes().splitlines() if b" save " in it]
+        self.assertEqual(lines, [b"save /f -", b"save /f -", b"save /f " + (b"third" * 100).hex().encode()])
+
     def test_the_new_journal_may_share_more(self) -> None:
         for _ in range(5):
             self.store.tick(10)
@@ -136,7 +164,8 @@ class Random(Case):
         for _ in range(80):
             store.tick(drawn.randrange(20))
             path = drawn.choice(("/f", "/g", "/h"))
-            word = drawn.choice(("edit", "edit", "edit", "save", "session", "revert", "delete", "pass", "pass"))
+            words = "edit", "edit", "edit", "save", "session", "abandon", "revert", "restore", "rename", "delete", "pass", "pass"
+            word = drawn.choice(words)
             try:
                 removed += getattr(self, f"do_{word}")(path, drawn) or 0
             except ElephantError as fault:
@@ -179,8 +208,27 @@ class Random(Case):
             self.store.tick(1)
             it.close()
 
+    def do_abandon(self, path: str, drawn: random.Random) -> None:
+        """Writes by a session that is given up, also after a sync or beside another session."""
+        it, other = self.store.session(path), self.store.session(path) if drawn.random() < 0.3 else None
+        it.write(drawn.randbytes(600), drawn.choice((0, SLOT, 5)))
+        if drawn.random() < 0.5:
+            self.store.sync()
+            it.truncate(drawn.choice((0, SLOT, 700)))
+        if drawn.random() < 0.3:
+            self.store.unlink(path)
+        it.abandon()
+        if other is not None:
+            other.close()
+
     def do_revert(self, path: str, drawn: random.Random) -> None:
         self.store.revert(path, drawn.choice(self.store.versions(path)).number)
+
+    def do_restore(self, path: str, drawn: random.Random) -> None:
+        self.store.restore(path, int(self.store.now) - drawn.randrange(200))
+
+    def do_rename(self, path: str, drawn: random.Random) -> None:
+        self.store.rename(path, drawn.choice(("/f", "/g", "/h")))
 
     def do_delete(self, path: str, drawn: random.Random) -> None:
         self.store.unlink(path)

@@ -162,7 +162,7 @@ class Contents(unittest.TestCase):
                 with store.open(f"/{mode}", mode):
                     pass
                 self.assertEqual(store.versions(f"/{mode}"), [Version(1, ZERO, ZERO, None, 0)])
-            self.assertEqual(([it.number for it in store.versions("/f")], store.reader("/f").number), ([1, 2], 2))
+            self.assertEqual(([it.number for it in store.versions("/f")], store.reader("/f").number), ([1, 2], 1))
             # The same bytes once more are a change, as they are for the core.
             with store.open("/f", "r+b") as file:
                 file.write(b"abc")
@@ -174,10 +174,8 @@ class Contents(unittest.TestCase):
                 store.save("/f", b"abc")
                 store.line("open write /f")
                 self.assertRaises(elephant.Drafting, store.save, "/f", b"xyz")
-                told = store.line("close 2")
-                # In a store with a history that is found out too late: the draft has the content.
-                self.assertEqual((told, store.read("/f")), ("ok closed version 3\n", b"xyz") if history else ("ok closed\n", b"abc"))
-                self.assertEqual(store.save("/f", b"more"), 4 if history else 3)
+                self.assertEqual((store.line("close 1"), store.read("/f")), ("ok closed\n", b"abc"))
+                self.assertEqual(store.save("/f", b"more"), 3)
 
     def test_a_write_that_changes_a_part_shares_the_rest(self) -> None:
         with manual() as store:
@@ -206,7 +204,7 @@ class Contents(unittest.TestCase):
                     if rng.random() < 0.3:
                         size = file.truncate(rng.choice([0, 1, 511, 512, 513]))
                         wanted = wanted[:size].ljust(size, b"\0")
-                version += bool(before or wanted)  # two empty contents are one version
+                version += 1
                 self.assertEqual((file.version, store.read("/f")), (version, bytes(wanted)))
 
     def test_a_write_over_what_another_wrote_meanwhile_is_whole(self) -> None:
@@ -233,9 +231,10 @@ class Contents(unittest.TestCase):
 
     def test_a_save_makes_the_file(self) -> None:
         with manual() as store:
-            self.assertEqual([store.save("/f", it) for it in (b"", b"", b"a", b"a", b"")], [1, 1, 2, 3, 4])
-            self.assertEqual([it.length for it in store.versions("/f")], [0, 1, 1, 0])
+            self.assertEqual([store.save("/f", it) for it in (b"", b"", b"a", b"a", b"")], [2, 3, 4, 5, 6])
+            self.assertEqual([it.length for it in store.versions("/f")], [0, 0, 0, 1, 1, 0])
             self.assertRaises(NoEntry, store.save, "/d/f", b"a")
+            self.assertRaises(elephant.IsRoot, store.save, "/", b"a")
             self.assertRaises(NoEntry, store.open, "/d/f", "wb")
             self.assertRaises(elephant.NotDirectory, store.open, "/f/g", "wb")
             self.assertRaises(elephant.IsDirectory, store.open, "/", "wb")
@@ -257,6 +256,51 @@ class Contents(unittest.TestCase):
                 pass
             self.assertEqual((unchanged.version, store.save("/f", b"x")), (None, 4))
 
+    def test_an_abandoned_session_makes_no_version(self) -> None:
+        for history in (False, True):
+            with manual(history=history) as store:
+                store.save("/f", b"hello")
+                session = store.session("/f")
+                session.write(b"mistake")
+                session.abandon()
+                self.assertEqual((store.read("/f"), len(store.versions("/f"))), (b"hello", 2))
+                self.assertRaises(elephant.Closed, session.abandon)
+                one, two = store.session("/f"), store.session("/f")
+                one.write(b"J")
+                two.write(b"e", 1)
+                one.abandon()
+                self.assertRaises(elephant.Drafting, store.save, "/f", b"x")
+                self.assertEqual((two.read(), two.close(), store.read("/f")), (b"Jello", 3, b"Jello"))
+                self.assertEqual(store.line("abandon 3"), "no 15 NoHandle\n")
+                with store.session("/f") as given_up:
+                    given_up.write(b"mistake")
+                    given_up.abandon()
+                self.assertEqual((given_up.version, store.save("/f", b"x")), (None, 4))
+
+    def test_what_a_path_held_is_restored(self) -> None:
+        with manual() as store:
+            store.save("/my notes", b"one")
+            store.clock(10)
+            store.save("/my notes", b"two")
+            store.clock(20)
+            self.assertEqual((store.restore("/my notes", 9), store.read("/my notes")), (4, b"one"))
+            store.rename("/my notes", "/n")
+            # By its own past, and by that of the name, which no file has now.
+            self.assertEqual((store.restore("/n", Moment(10)), store.read("/n")), (5, b"two"))
+            self.assertEqual((store.restore("/my notes", 9), store.read("/my notes"), store.read("/n")), (2, b"one", b"two"))
+            store.clock(30)
+            store.unlink("/n")
+            self.assertEqual((store.restore("/n", 29), store.read("/n"), file_stat(store, "/n").file), (6, b"two", 1))
+            self.assertRaises(elephant.Future, store.restore, "/n", 31)
+            self.assertRaises(NoEntry, store.restore, "/none", 9)
+            self.assertRaises(elephant.IsDirectory, store.restore, "/", 9)
+            self.assertRaises(elephant.BadMoment, store.restore, "/n", 1 << 40)
+            with store.session("/n"):
+                self.assertRaises(elephant.Drafting, store.restore, "/n", 29)
+            store.set_policy("/n", elephant.KeepOne())
+            store.pass_()
+            self.assertRaises(Forgotten, store.restore, "/n", 20)
+
     def test_a_reader_keeps_its_version(self) -> None:
         with manual() as store:
             store.set_default("/", KeepOne())
@@ -264,7 +308,7 @@ class Contents(unittest.TestCase):
             store.save("/f", b"two")
             with store.reader("/f", version=2) as reader:
                 self.assertEqual((store.why("/f", version=2), store.pass_()), (Open(), Pass(1, True)))
-                self.assertEqual((reader.read(), reader.number), (b"one", 3))
+                self.assertEqual((reader.read(), reader.number), (b"one", 1))
                 self.assertRaises(elephant.NotWriter, store._write_handle, reader.number, 0, b"x")
             self.assertEqual(store.clean(), Removable(ZERO, 1, 2))
             self.assertIsNone(store.clean())
@@ -501,7 +545,7 @@ class Policies(unittest.TestCase):
 
 class Limited(unittest.TestCase):
     def test_what_is_full_is_told(self) -> None:
-        ones = Limits(files=1, directories=1, names=9, versions=3, handles=1, groups=1, members=1, marks=1)
+        ones = Limits(files=1, directories=1, names=9, versions=2, handles=0, groups=1, members=1, marks=1)
         with manual(limits=ones) as store:
             store.mkdir("/d")
             store.create("/f")
@@ -511,7 +555,8 @@ class Limited(unittest.TestCase):
             store.mark("g", 1)
             self.assertEqual(store.save("/f", b"a"), 2)
             calls: list[Call] = [
-                (store.mkdir, ("/e",), "directories"), (store.create, ("/g",), "files"), (store.save, ("/f", b"b"), "handles"),
+                (store.mkdir, ("/e",), "directories"), (store.create, ("/g",), "files"), (store.session, ("/f",), "handles"),
+                (store.save, ("/f", b"b"), "versions"), (store.save, ("/g", b"b"), "files"),
                 (store.group_make, ("h",), "groups"), (store.mark, ("g", 2), "marks"),
             ]
             for call, words, what in calls:

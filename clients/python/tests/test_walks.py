@@ -204,12 +204,12 @@ def _raised(call: Callable[..., object], *words: object) -> ElephantError:
 
 
 class Saves(unittest.TestCase):
-    def test_an_unchanged_content_makes_a_version_and_an_empty_one_of_an_empty_file_none(self) -> None:
+    def test_an_unchanged_content_makes_a_version_also_an_empty_one(self) -> None:
         with manual() as store:
             store.set_default("/", KeepAll())
-            self.assertEqual([store.save("/f", it) for it in (b"x", b"x", b"", b"")], [2, 3, 4, 4])
-            self.assertEqual([store.read("/f", version=it) for it in (1, 2, 3, 4)], [b"", b"x", b"x", b""])
-            self.assertEqual([store.save("/e", b""), store.save("/e", b"")], [1, 1])
+            self.assertEqual([store.save("/f", it) for it in (b"x", b"x", b"", b"")], [2, 3, 4, 5])
+            self.assertEqual([store.read("/f", version=it) for it in (1, 2, 3, 4, 5)], [b"", b"x", b"x", b"", b""])
+            self.assertEqual([store.save("/e", b""), store.save("/e", b"")], [2, 3])
 
     def test_an_open_session_refuses_a_save_by_each_name(self) -> None:
         with manual() as store:
@@ -233,15 +233,14 @@ class Saves(unittest.TestCase):
             self.assertRaises(elephant.Drafting, store.save, "/f", b"")
             self.assertEqual(store.read("/f"), b"one")
 
-    def test_a_new_empty_file_takes_no_handle(self) -> None:
+    def test_a_save_takes_no_handle(self) -> None:
         with manual(limits=Limits(handles=0)) as store:
-            self.assertEqual(store.save("/e", b""), 1)
-            self.assertEqual(str(_raised(store.save, "/f", b"x")), "27 Full handles: /f")
+            self.assertEqual([store.save("/f", b"x"), store.save("/f", bytes(100_000))], [2, 3])
 
-    def test_a_new_file_that_finds_no_room_for_its_content_is_empty(self) -> None:
+    def test_a_new_file_that_finds_no_room_for_its_content_is_not_made(self) -> None:
         with manual(limits=Limits(versions=1)) as store:
             self.assertEqual(str(_raised(store.save, "/f", b"one")), "27 Full versions: /f")
-            self.assertEqual((store.read("/f"), len(store.versions("/f"))), (b"", 1))
+            self.assertEqual((store.list(), store.restorable()), ([], []))
 
 
 if __name__ == "__main__":

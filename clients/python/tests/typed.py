@@ -178,6 +178,15 @@ class Typed:
         version = Session(self.store, "", number(handle)).close()
         return f"ok closed version {version}\n" if version else "ok closed\n"
 
+    def do_abandon(self, handle: str) -> None:
+        Session(self.store, "", number(handle)).abandon()
+
+    def do_save(self, name: str, data: str) -> str:
+        return made(self.store.save(path(name), content(data)))
+
+    def do_restore(self, name: str, at: str) -> str:
+        return made(self.store.restore(path(name), moment(at)))
+
     def do_revert(self, name: str, version: str) -> str:
         return made(self.store.revert(path(name), number(version)))
 

@@ -6,7 +6,8 @@ use std::io::{self, Seek, SeekFrom, Write};
 /// Writes a file. All sessions that write the same file at a time share one draft, which becomes a version when the last of them
 /// is closed; a draft that wasn't changed makes none.
 ///
-/// Dropping a session closes it, and keeps what was written. [`close`](Session::close) returns the version that it made.
+/// Dropping a session closes it, and keeps what was written. [`close`](Session::close) returns the version that it made, and
+/// [`abandon`](Session::abandon) makes none.
 ///
 /// ```
 /// use elephant::Store;
@@ -75,6 +76,32 @@ impl<'store> Session<'store> {
         let made = self.store.close_handle(self.handle)?;
         std::mem::forget(self);
         Ok(made)
+    }
+}
+
+impl Session<'_> {
+    /// Ends the session without a version. If it was the file's last one, what the sessions wrote is removed.
+    ///
+    /// ```
+    /// # use elephant::{Error, Store};
+    /// # fn main() -> Result<(), Error> {
+    /// let store = Store::new()?;
+    /// store.save("/notes", b"milk")?;
+    /// let session = store.session("/notes")?;
+    /// session.write_at(0, b"a mistake")?;
+    /// session.abandon()?;
+    /// assert_eq!(store.read("/notes")?, b"milk");
+    /// # Ok(())
+    /// # }
+    /// ```
+    ///
+    /// # Errors
+    /// [`Error::NoHandle`] if a line closed it. Only a history takes memory for it ([`Error::NoMemory`]); the session is then closed as
+    /// it is dropped, and keeps what was written.
+    pub fn abandon(self) -> Result<(), Error> {
+        self.store.abandon(self.handle)?;
+        std::mem::forget(self);
+        Ok(())
     }
 }
 

@@ -3,8 +3,6 @@
 use crate::sys;
 use crate::types::Tag;
 use crate::{Error, Limits, Target};
-use std::cell::RefCell;
-use std::collections::BTreeMap;
 use std::fmt;
 use std::ptr::{self, NonNull};
 
@@ -40,8 +38,8 @@ impl Options {
         self
     }
 
-    /// Sets whether the store keeps each event and question with its answer, this crate's own questions too: a session first asks
-    /// for its file's number. Use it only for a short time, or call [`Store::trim`] now and then.
+    /// Sets whether the store keeps each event and question with its answer. Use it only for a short time, or call [`Store::trim`] now
+    /// and then.
     pub fn history(mut self, is_kept: bool) -> Options {
         self.history = is_kept;
         self
@@ -56,7 +54,7 @@ impl Options {
         // SAFETY: it writes a pointer to `raw`.
         unsafe { sys::elephant_new(&mut raw) };
         let raw = NonNull::new(raw).ok_or(Error::NoMemory)?;
-        let store = Store { raw, has_history: self.history, writers: RefCell::default() };
+        let store = Store { raw, has_history: self.history };
         let limits = sys::elephant_limits {
             events: self.limits.events,
             files: self.limits.files,
@@ -104,8 +102,6 @@ pub struct Store {
     // The open handle from `elephant_new`.
     raw: NonNull<sys::elephant>,
     pub(crate) has_history: bool,
-    // The file that each open session writes.
-    pub(crate) writers: RefCell<BTreeMap<u64, u64>>,
 }
 
 // SAFETY: the library keeps no state of a thread, and takes a handle's calls from any thread, one

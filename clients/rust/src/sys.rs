@@ -197,7 +197,17 @@ extern "C" {
     pub fn elephant_write(e: *mut elephant, handle: u64, offset: u64, bytes: *const u8, len: usize) -> i32;
     pub fn elephant_truncate(e: *mut elephant, handle: u64, size: u64) -> i32;
     pub fn elephant_close_handle(e: *mut elephant, handle: u64, version: *mut u64) -> i32;
+    pub fn elephant_abandon(e: *mut elephant, handle: u64) -> i32;
+    pub fn elephant_save(
+        e: *mut elephant,
+        path: *const u8,
+        len: usize,
+        bytes: *const u8,
+        bytes_len: usize,
+        version: *mut u64,
+    ) -> i32;
     pub fn elephant_revert(e: *mut elephant, path: *const u8, len: usize, number: u64, version: *mut u64) -> i32;
+    pub fn elephant_restore(e: *mut elephant, path: *const u8, len: usize, moment: u64, version: *mut u64) -> i32;
     pub fn elephant_open_read(e: *mut elephant, path: *const u8, len: usize, tag: u32, number: u64, handle: *mut u64) -> i32;
     pub fn elephant_read(e: *mut elephant, path: *const u8, len: usize, tag: u32, number: u64, length: *mut u64) -> i32;
     pub fn elephant_read_handle(e: *mut elephant, handle: u64, length: *mut u64) -> i32;

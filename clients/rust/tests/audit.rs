@@ -29,11 +29,11 @@ fn removed_versions_are_listed_with_their_moments_and_causes() {
     let gone = store.gone().unwrap();
     let wanted = [removal(5, (1, 1), Some("/f"), 5, Cause::AtOnce), removal(9, (1, 2), None, 5, Cause::AtOnce)];
     assert_eq!((gone.folded, gone.removals), (0, wanted.to_vec()));
-    // default, create, stat and open write of the session, clock, write, close, clean, unlink, clock, clean.
-    assert_eq!(store.trim(), Ok(11));
+    // default, create, open write of the session, clock, write, close, clean, unlink, clock, clean.
+    assert_eq!(store.trim(), Ok(10));
     assert_eq!(store.create("/g"), Ok(2));
     let (gone, answers) = (store.gone().unwrap(), store.answers().unwrap());
-    assert_eq!((gone.folded, gone.removals, answers.folded), (11, vec![], 11));
+    assert_eq!((gone.folded, gone.removals, answers.folded), (10, vec![], 10));
     assert_eq!(answers.answered, [Answered { line: "create /g".to_owned(), answer: "ok file 2\n".to_owned() }]);
 }
 
@@ -103,10 +103,10 @@ fn open_handles_have_what_they_read_and_since_when() {
     };
     // The event that opened the first reader is folded.
     let path = Some("/g");
-    let wanted = [handle(2, Some(2), None, path), handle(3, Some(1), Some(7), path), handle(4, None, Some(7), path)];
+    let wanted = [handle(1, Some(2), None, path), handle(2, Some(1), Some(7), path), handle(3, None, Some(7), path)];
     assert_eq!(store.handles().unwrap(), wanted);
     store.unlink("/g").unwrap();
-    assert_eq!(store.handles().unwrap()[2], handle(4, None, Some(7), None));
+    assert_eq!(store.handles().unwrap()[2], handle(3, None, Some(7), None));
     drop((old, reader, session));
     assert_eq!(store.handles(), Ok(vec![]));
 }

@@ -142,6 +142,55 @@ fn the_last_session_of_a_draft_makes_the_version() {
 }
 
 #[test]
+fn an_abandoned_session_makes_no_version() {
+    let store = with_file();
+    let session = store.session("/f").unwrap();
+    session.write_at(0, b"mistake").unwrap();
+    let handle = session.handle();
+    assert_eq!(session.abandon(), Ok(()));
+    assert_eq!((store.read("/f").unwrap(), store.versions("/f").unwrap().len()), (b"two".to_vec(), 3));
+    assert_eq!(store.line(&format!("close {handle}")).unwrap(), "no 15 NoHandle\n");
+    // Another session keeps the draft, with what both wrote.
+    let (first, second) = (store.session("/f").unwrap(), store.session("/f").unwrap());
+    first.write_at(0, b"a").unwrap();
+    second.write_at(1, b"b").unwrap();
+    assert_eq!(first.abandon(), Ok(()));
+    assert_eq!(store.save("/f", b"x"), Err(Error::Drafting));
+    assert_eq!(second.close(), Ok(Some(4)));
+    assert_eq!(store.read("/f").unwrap(), b"abo");
+    // A line may have closed it.
+    let session = store.session("/f").unwrap();
+    store.line(&format!("close {}", session.handle())).unwrap();
+    assert_eq!(session.abandon(), Err(Error::NoHandle));
+}
+
+#[test]
+fn what_a_path_held_is_restored() {
+    let store = with_file();
+    store.tick(10).unwrap();
+    assert_eq!(store.restore("/f", 9), Ok(4));
+    assert_eq!((store.read("/f").unwrap(), store.read(version("/f", 3)).unwrap()), (b"one".to_vec(), b"two".to_vec()));
+    // By its own past, if the name is new; and a deleted name comes back, with its file.
+    store.rename("/f", "/g").unwrap();
+    assert_eq!(store.restore("/g", 10), Ok(5));
+    assert_eq!(store.read("/g").unwrap(), b"two");
+    store.tick(1).unwrap();
+    store.unlink("/g").unwrap();
+    assert_eq!(store.restore("/g", 20), Ok(6));
+    assert_eq!((store.read("/g").unwrap(), store.versions("/g").unwrap().len()), (b"two".to_vec(), 6));
+    // The file that had this name has another one: a new file gets the content.
+    assert_eq!(store.restore("/f", 9), Ok(2));
+    assert_eq!((store.read("/f").unwrap(), store.versions("/f").unwrap().len()), (b"one".to_vec(), 2));
+    assert_eq!(store.restore("/f", 22), Err(Error::Future));
+    assert_eq!(store.restore("/none", 9), Err(Error::NoEntry));
+    assert_eq!(store.restore("/", 9), Err(Error::IsDirectory));
+    assert_eq!(store.restore("/f", u64::MAX), Err(Error::BadMoment));
+    let session = store.session("/f").unwrap();
+    assert_eq!(store.restore("/f", 9), Err(Error::Drafting));
+    drop(session);
+}
+
+#[test]
 fn a_content_has_a_mebibyte_at_most() {
     let store = with_file();
     let whole = vec![7; LARGEST_CONTENT];
@@ -319,7 +368,7 @@ fn each_limit_is_told_by_its_name() {
     store.tick(9).unwrap();
     store.mark("g", 1, None).unwrap();
     assert_eq!(store.mark("g", 2, None).unwrap_err(), Error::Full(Limit::Marks));
-    let store = one(Limits { names: 1, versions: 2, handles: 1, ..Limits::default() });
+    let store = one(Limits { names: 1, versions: 2, handles: 0, ..Limits::default() });
     store.create("/f").unwrap();
     assert_eq!(store.create("/g"), full(Limit::Names));
     assert_eq!(store.save("/f", b"x"), Ok(2));

@@ -3,7 +3,6 @@
 #![cfg(faulty_library)]
 
 use elephant::{at, version, Error, Fate, Options, PassEnd, Policy, Rung, Store};
-use std::collections::BTreeSet;
 use std::fmt::Debug;
 
 extern "C" {
@@ -12,8 +11,6 @@ extern "C" {
 }
 
 const NO_MEMORY: i32 = 1;
-const NO_ENTRY: i32 = 5;
-const EXISTS: i32 = 8;
 const UNTOLD: i32 = 71;
 // The two codes whose errors have a detail.
 const FORGOTTEN: i32 = 13;
@@ -49,7 +46,9 @@ fn scene() -> Store {
     store.mkdir("/empty").unwrap();
     store.create("/d/f").unwrap();
     store.save("/d/f", &FIRST).unwrap();
+    store.save("/left", b"left").unwrap();
     store.clock(10).unwrap();
+    store.unlink("/left").unwrap();
     store.save("/d/f", &CURRENT).unwrap();
     store.create("/one").unwrap();
     store.set_policy("/one", &Policy::KeepOne).unwrap();
@@ -92,7 +91,7 @@ fn text<T: Debug>(result: Result<T, Error>) -> Result<String, Error> {
 }
 
 // The methods that change nothing if a call fails.
-const METHODS: [(&str, Method); 46] = [
+const METHODS: [(&str, Method); 50] = [
     ("clock", |it| text(it.clock(11))),
     ("tick", |it| text(it.tick(1))),
     ("mkdir", |it| text(it.mkdir("/n"))),
@@ -103,6 +102,10 @@ const METHODS: [(&str, Method); 46] = [
     ("rename", |it| text(it.rename("/d", "/n").map_err(Error::from))),
     ("undelete", |it| text(it.undelete("/gone"))),
     ("revert", |it| text(it.revert("/d/f", 2))),
+    ("save", |it| text(it.save("/d/f", b"x"))),
+    ("save of a new file", |it| text(it.save("/n", b"x"))),
+    ("restore", |it| text(it.restore("/d/f", 9))),
+    ("restore of a deleted file", |it| text(it.restore("/left", 9))),
     ("session", |it| text(it.session("/d/f").map(drop))),
     ("write_at", |it| text(it.session("/d/f").and_then(|it| it.write_at(0, b"x")))),
     ("set_len", |it| text(it.session("/d/f").and_then(|it| it.set_len(1)))),
@@ -169,85 +172,38 @@ fn a_call_that_is_refused_memory_leaves_the_store_as_it_was() {
     }
 }
 
-/// The contents of the versions of a file.
-fn contents(store: &Store, path: &str) -> Vec<Vec<u8>> {
-    store.versions(path).unwrap().iter().map(|it| store.read(version(path, it.number)).unwrap()).collect()
-}
-
 #[test]
-fn a_save_that_is_refused_leaves_the_file_as_it_was() {
-    for (content, calls) in [(&b""[..], 3), (b"short", 4), (&[3; 4_999], 4), (&[3; 12_345], 4)] {
-        let whole: BTreeSet<Vec<u8>> = [vec![], FIRST.to_vec(), CURRENT.to_vec()].into();
+fn a_save_is_one_call() {
+    for (path, content, made) in [("/d/f", &b"short"[..], 4), ("/d/f", b"", 4), ("/d/f", &[3; 12_345], 4), ("/n", b"new", 2)] {
         let store = scene();
         fail_none();
-        assert_eq!((store.save("/d/f", content), calls_made()), (Ok(4), calls));
-        for (at, code) in (0..calls).flat_map(|at| CODES.map(|code| (at, code))) {
+        assert_eq!((store.save(path, content), calls_made()), (Ok(made), 1));
+        assert_eq!(store.read(path).unwrap(), content);
+        for code in CODES {
             let store = scene();
-            fail(at, code, false);
-            // A file that isn't there is made, and here it is.
-            let wanted = if at == 0 && code == NO_ENTRY { EXISTS } else { code };
-            assert_eq!(store.save("/d/f", content).unwrap_err().code(), wanted, "call {at}, code {code}");
+            let before = state(&store);
+            fail(0, code, false);
+            assert_eq!(store.save(path, content).unwrap_err().code(), code);
             fail_none();
-            assert_eq!(store.read("/d/f").unwrap(), CURRENT, "call {at}, code {code}");
-            let held = contents(&store, "/d/f");
-            assert!(held.iter().all(|it| whole.contains(it)), "call {at}, code {code}");
-            // Before a call that changes the draft succeeds, no version is made.
-            assert!(held.len() == 3 || at + 2 >= calls && !content.is_empty() || at + 1 == calls, "call {at}, code {code}");
-            assert!(store.save("/d/f", content).is_ok(), "call {at}, code {code}");
-            assert_eq!(store.read("/d/f").unwrap(), content, "call {at}, code {code}");
-            // An open draft would refuse it.
-            assert!(store.revert("/d/f", 2).is_ok(), "call {at}, code {code}");
+            assert_eq!(state(&store), before, "code {code}");
         }
     }
 }
 
 #[test]
-fn a_save_of_a_new_file_that_is_refused_leaves_none_or_an_empty_one() {
-    // The refused opening, the making, the opening, the write, the truncation, the close.
-    for at in 1..6 {
-        let store = scene();
-        fail(at, NO_MEMORY, false);
-        assert_eq!(store.save("/n", b"new"), Err(Error::NoMemory), "call {at}");
-        fail_none();
-        if at == 1 {
-            assert_eq!(store.read("/n"), Err(Error::NoEntry));
-        } else {
-            assert!(contents(&store, "/n").iter().all(Vec::is_empty), "call {at}");
-        }
-        assert!(store.save("/n", b"new").is_ok(), "call {at}");
-        assert_eq!(store.read("/n").unwrap(), b"new", "call {at}");
-    }
-}
-
-#[test]
-fn an_empty_save_of_an_empty_file_asks_for_its_version() {
+fn an_abandoned_session_that_is_refused_memory_is_closed() {
     let store = scene();
-    assert_eq!(store.save("/e", b""), Ok(1));
+    let session = store.session("/d/f").unwrap();
+    session.write_at(0, b"draft").unwrap();
+    fail(0, NO_MEMORY, false);
+    assert_eq!((session.abandon(), calls_made()), (Err(Error::NoMemory), 2));
     fail_none();
-    assert_eq!((store.save("/e", b""), calls_made()), (Ok(1), 4));
-    for at in 0..4 {
-        fail(at, NO_MEMORY, false);
-        assert_eq!(store.save("/e", b""), Err(Error::NoMemory), "call {at}");
-        fail_none();
-        assert_eq!((contents(&store, "/e"), store.save("/e", b"")), (vec![vec![]], Ok(1)), "call {at}");
-    }
-}
-
-#[test]
-fn a_save_under_an_open_session_changes_nothing_whatever_fails() {
-    for at in 0..2 {
-        let store = scene();
-        let session = store.session("/d/f").unwrap();
-        session.write_at(0, b"draft").unwrap();
-        fail(at, NO_MEMORY, false);
-        let found = store.save("/d/f", b"other");
-        let made = calls_made();
-        fail_none();
-        assert_eq!(found, Err(if at == 0 { Error::NoMemory } else { Error::Drafting }));
-        assert_eq!(made, 1, "it only asks for the file's number");
-        assert_eq!(session.contents().unwrap()[..6], *b"draft\x02");
-        assert_eq!(session.close(), Ok(Some(4)));
-    }
+    assert_eq!(store.read("/d/f").unwrap()[..6], *b"draft\x02");
+    let session = store.session("/d/f").unwrap();
+    session.write_at(0, b"other").unwrap();
+    fail_none();
+    assert_eq!((session.abandon(), calls_made()), (Ok(()), 1));
+    assert_eq!(store.read("/d/f").unwrap()[..6], *b"draft\x02");
 }
 
 #[test]

@@ -19,27 +19,26 @@ fn a_save_makes_the_file() {
     assert_eq!(contents(&store, "/f"), [&b""[..], b"one"]);
     assert_eq!(store.save("/d/f", b"one"), Err(Error::NoEntry));
     assert_eq!(store.save("/f/g", b"one"), Err(Error::NotDirectory));
-    assert_eq!(store.save("/", b"one"), Err(Error::IsDirectory));
+    assert_eq!(store.save("/", b"one"), Err(Error::IsRoot));
     assert_eq!(store.save("f", b"one"), Err(Error::BadPath));
     assert_eq!(store.save("/a@b", b"one"), Err(Error::BadName));
     assert_eq!(store.list("/").unwrap().len(), 1);
 }
 
 #[test]
-fn an_unchanged_content_makes_a_version_and_an_empty_one_of_an_empty_file_none() {
+fn an_unchanged_content_makes_a_version_also_an_empty_one() {
     let store = keeping(Limits::default());
     assert_eq!([store.save("/f", b"x"), store.save("/f", b"x"), store.save("/f", b"")], [Ok(2), Ok(3), Ok(4)]);
-    assert_eq!(store.save("/f", b""), Ok(4));
-    assert_eq!(contents(&store, "/f"), [&b""[..], b"x", b"x", b""]);
-    assert_eq!([store.save("/e", b""), store.save("/e", b"")], [Ok(1), Ok(1)]);
-    assert_eq!(contents(&store, "/e"), [b""]);
+    assert_eq!(store.save("/f", b""), Ok(5));
+    assert_eq!(contents(&store, "/f"), [&b""[..], b"x", b"x", b"", b""]);
+    assert_eq!([store.save("/e", b""), store.save("/e", b"")], [Ok(2), Ok(3)]);
+    assert_eq!(contents(&store, "/e"), [b"", b"", b""]);
 }
 
 #[test]
-fn a_new_empty_file_takes_no_handle() {
+fn a_save_takes_no_handle() {
     let store = keeping(Limits { handles: 0, ..Limits::default() });
-    assert_eq!(store.save("/e", b""), Ok(1));
-    assert_eq!(store.save("/f", b"x"), Err(Error::Full(Limit::Handles)));
+    assert_eq!([store.save("/f", b"x"), store.save("/f", b"y")], [Ok(2), Ok(3)]);
 }
 
 #[test]
@@ -72,18 +71,13 @@ fn a_save_waits_until_no_session_writes_the_file() {
 }
 
 #[test]
-fn a_save_into_the_draft_of_a_line_says_so() {
+fn a_save_waits_until_a_line_writes_the_file_no_more() {
     let store = keeping(Limits::default());
     store.save("/f", b"one").unwrap();
-    assert_eq!(store.line("open write /f").unwrap(), "ok handle 2\n");
-    assert_eq!(store.save("/f", b"other"), Err(Error::Drafting));
-    assert_eq!(store.read("/f").unwrap(), b"one");
-    assert_eq!(store.save("/f", b""), Err(Error::Drafting));
-    assert_eq!(store.line("close 2").unwrap(), "ok closed version 3\n");
-    // Also of a file that is empty.
-    store.create("/e").unwrap();
-    store.line("open write /e").unwrap();
-    assert_eq!(store.save("/e", b"x"), Err(Error::Drafting));
+    assert_eq!(store.line("open write /f").unwrap(), "ok handle 1\n");
+    assert_eq!([store.save("/f", b"other"), store.save("/f", b"")], [Err(Error::Drafting), Err(Error::Drafting)]);
+    assert_eq!(store.line("close 1").unwrap(), "ok closed\n");
+    assert_eq!(contents(&store, "/f"), [&b""[..], b"one"]);
 }
 
 #[test]
@@ -91,18 +85,21 @@ fn a_session_that_a_line_closed_is_over() {
     let store = keeping(Limits::default());
     store.save("/f", b"one").unwrap();
     let session = store.session("/f").unwrap();
-    assert_eq!(store.line("close 2").unwrap(), "ok closed\n");
-    assert_eq!(store.save("/f", b"two"), Err(Error::Drafting));
-    assert_eq!(session.close(), Err(Error::NoHandle));
+    assert_eq!(store.line("close 1").unwrap(), "ok closed\n");
     assert_eq!(store.save("/f", b"two"), Ok(3));
+    assert_eq!(session.close(), Err(Error::NoHandle));
 }
 
 #[test]
-fn a_new_file_that_finds_no_room_for_its_content_is_empty() {
-    let store = keeping(Limits { versions: 1, ..Limits::default() });
-    assert_eq!(store.save("/f", b"one"), Err(Error::Full(Limit::Versions)));
-    assert_eq!(contents(&store, "/f"), [b""]);
-    let store = keeping(Limits { files: 0, ..Limits::default() });
-    assert_eq!(store.save("/f", b"one"), Err(Error::Full(Limit::Files)));
-    assert_eq!(store.list("/"), Ok(vec![]));
+fn a_new_file_that_finds_no_room_is_not_made() {
+    let none = Limits::default;
+    for (limits, limit) in [
+        (Limits { versions: 1, ..none() }, Limit::Versions),
+        (Limits { files: 0, ..none() }, Limit::Files),
+        (Limits { names: 0, ..none() }, Limit::Names),
+    ] {
+        let store = keeping(limits);
+        assert_eq!(store.save("/f", b"one"), Err(Error::Full(limit)));
+        assert_eq!((store.list("/"), store.restorable()), (Ok(vec![]), Ok(vec![])));
+    }
 }

@@ -116,6 +116,15 @@ AsksAt event bytes kind number =
     Finds (λ asked. (at : PathAt) × SpellsPath bytes at.path × (time_of kind number ≡ Ok at.moment) × (asked ≡ event at))
     (IsTimedFault bytes kind number) (TakesPath bytes)
 
+-- a path, and a moment; a fault of the path comes first
+abbrev pub IsThenFault : List ℕ → ℕ → LineFault → Type 0
+IsThenFault bytes moment fault = IsPathFault bytes fault ⊎ (IsPathText bytes × (moment_of moment ≡ Err fault))
+
+abbrev pub AsksThen : (List (List ℕ) → ℕ → Event) → List ℕ → ℕ → Result Event LineFault → Type 0
+AsksThen event bytes moment =
+    Finds (λ asked. (path : List (List ℕ)) × SpellsPath bytes path × (moment_of moment ≡ Ok moment) × (asked ≡ event path moment))
+    (IsThenFault bytes moment) (TakesPath bytes)
+
 -- a path, and a policy's word; a fault of the path comes first
 abbrev pub IsPolicyFault : List ℕ → List ℕ → LineFault → Type 0
 IsPolicyFault bytes word fault = IsPathFault bytes fault ⊎ (IsPathText bytes × ReadsPolicy word (Err fault))

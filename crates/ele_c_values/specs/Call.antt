@@ -1,6 +1,6 @@
 -- What a call by its number asks for.
 use Rattle.std.specs.Prelude.{◌≡◌, ℕ, ◌-◌, nat_lt, List, [], ◌∷◌, slice_get, Option, Some, None, Result, Err, if◌then◌else◌}
-use Rattle.ele_c_values.specs.Asks.{Asks, AsksAt, AsksBytes, AsksClock, AsksEnd, AsksMark, AsksMember, AsksName, AsksPath, AsksPaths, AsksPolicy, AsksTagged, AsksVersion}
+use Rattle.ele_c_values.specs.Asks.{Asks, AsksAt, AsksBytes, AsksClock, AsksEnd, AsksMark, AsksMember, AsksName, AsksPath, AsksPaths, AsksPolicy, AsksTagged, AsksThen, AsksVersion}
 use Rattle.ele_c_values.specs.declared.call.Call.{Call}
 use Rattle.ele_c_values.specs.declared.call.Call.TheVariants as call
 use Rattle.ele_model.specs.declared.event.Event.{Event}
@@ -24,7 +24,8 @@ middle =
 abbrev pub late : List Call
 late =
     call.Unmark ∷ call.CleanOne ∷ call.Read ∷ call.ReadHandle ∷ call.Stat ∷ call.Versions
-    ∷ call.ListNames ∷ call.Restorable ∷ call.Due ∷ call.UsageAll ∷ call.GroupsAll ∷ []
+    ∷ call.ListNames ∷ call.Restorable ∷ call.Due ∷ call.UsageAll ∷ call.GroupsAll ∷ call.Save
+    ∷ call.Abandon ∷ call.Restore ∷ []
 
 abbrev pub call_at : ℕ → Option Call
 call_at number =
@@ -66,6 +67,9 @@ AsksCall call.Restorable first second tag number other asked = Asks event.Restor
 AsksCall call.Due first second tag number other asked = Asks event.Due asked
 AsksCall call.UsageAll first second tag number other asked = Asks event.UsageAll asked
 AsksCall call.GroupsAll first second tag number other asked = Asks event.GroupsAll asked
+AsksCall call.Save first second tag number other asked = AsksPath (λ path. event.Save path second) first asked
+AsksCall call.Abandon first second tag number other asked = Asks (event.Abandon number) asked
+AsksCall call.Restore first second tag number other asked = AsksThen event.Restore first number asked
 
 -- a number that no call has is Syntax
 abbrev pub AsksNumbered : Option Call → List ℕ → List ℕ → ℕ → ℕ → ℕ → Result Event LineFault → Type 0

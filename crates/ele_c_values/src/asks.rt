@@ -1,6 +1,6 @@
 //! What the arguments of a call ask for. A contract sees them as the bytes and numbers that C gives.
 ghost use Rattle.std.specs.Prelude.{◌≡◌, Ok, OnOk};
-ghost use Rattle.ele_c_values.specs.Asks.{AsksSource, CopiesBytes, Finds, IsEnd, IsEndFault, IsMarkFault, IsMemberFault, IsMoment, IsNameFault, IsPathFault, IsPathsFault, IsPolicyFault, IsTagged, IsTaggedFault, IsTimedFault, TakesPath, end_of, moment_of, tag_of, time_of};
+ghost use Rattle.ele_c_values.specs.Asks.{AsksSource, CopiesBytes, Finds, IsEnd, IsEndFault, IsMarkFault, IsMemberFault, IsMoment, IsNameFault, IsPathFault, IsPathsFault, IsPolicyFault, IsTagged, IsTaggedFault, IsThenFault, IsTimedFault, TakesPath, end_of, moment_of, tag_of, time_of};
 ghost use Rattle.ele_moment.specs.Name.{IsName};
 ghost use Rattle.ele_path.specs.Path.{SpellsPath};
 ghost use Rattle.ele_script.specs.PolicyWord.{ReadsPolicy};
@@ -178,6 +178,34 @@ pub(crate) fn content(alloc: Global, bytes: &[u8]) -> Result<ByteList, LineFault
         return Ok(ByteList::new(alloc));
     }
     Ok(ByteList::from_vec(Vec::from_slice(alloc, bytes)?))
+}
+
+/// A path, and a copy of the bytes to save there.
+pub(crate) fn saved(
+    alloc: Global,
+    bytes: &[u8],
+    copied: &[u8],
+) -> Result<(Path, ByteList), LineFault>
+    ensures { Finds (λ both. SpellsPath bytes.now both.0 × (both.1 ≡ copied.now))
+        (IsPathFault bytes.now) (TakesPath bytes.now) result }
+{
+    let path = path(alloc, bytes)?;
+    let content = content(alloc, copied)?;
+    Ok((path, content))
+}
+
+/// A path, and a moment.
+pub(crate) fn path_then(
+    alloc: Global,
+    bytes: &[u8],
+    seconds: u64,
+) -> Result<(Path, Moment), LineFault>
+    ensures { Finds (λ both. SpellsPath bytes.now both.0 × (moment_of seconds ≡ Ok both.1))
+        (IsThenFault bytes.now seconds) (TakesPath bytes.now) result }
+{
+    let path = path(alloc, bytes)?;
+    let moment = moment(seconds)?;
+    Ok((path, moment))
 }
 
 /// What a read copies: what a handle reads, or a version.

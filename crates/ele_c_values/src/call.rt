@@ -38,6 +38,9 @@ pub enum Call {
     Due,
     UsageAll,
     GroupsAll,
+    Save,
+    Abandon,
+    Restore,
 }
 
 // The calls in the order of their numbers, which is that of the type, in three tables that a proof looks
@@ -70,7 +73,7 @@ static MIDDLE: [Call; 11] = [
     Call::Mark,
 ];
 
-static LATE: [Call; 11] = [
+static LATE: [Call; 14] = [
     Call::Unmark,
     Call::CleanOne,
     Call::Read,
@@ -82,6 +85,9 @@ static LATE: [Call; 11] = [
     Call::Due,
     Call::UsageAll,
     Call::GroupsAll,
+    Call::Save,
+    Call::Abandon,
+    Call::Restore,
 ];
 
 fn early(place: u32) -> Option<Call>

@@ -2,7 +2,8 @@
 ghost use Rattle.ele_c_values.specs.Call.{AsksNumbered};
 
 use crate::asks::{
-    content, mark, member, moment, name, name_at, path, path_at, paths, policy, tagged,
+    content, mark, member, moment, name, name_at, path, path_at, path_then, paths, policy, saved,
+    tagged,
 };
 use crate::call::Call;
 use ele_model::{Event, Handle, Source, VersionNo};
@@ -93,5 +94,14 @@ pub fn event(
         Call::Due => Ok(Event::Due),
         Call::UsageAll => Ok(Event::UsageAll),
         Call::GroupsAll => Ok(Event::GroupsAll),
+        Call::Save => match saved(alloc, first, second) {
+            Ok(both) => Ok(Event::Save(both.0, both.1)),
+            Err(fault) => Err(fault),
+        },
+        Call::Abandon => Ok(Event::Abandon(Handle(number))),
+        Call::Restore => match path_then(alloc, first, number) {
+            Ok(both) => Ok(Event::Restore(both.0, both.1)),
+            Err(fault) => Err(fault),
+        },
     }
 }

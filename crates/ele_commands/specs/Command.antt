@@ -23,6 +23,7 @@ asks words kinds = record { words = words; kinds = kinds; when = Explaining }
 abbrev pub row : Command → Row
 row command.Ahead = asks (codes "ahead" ∷ []) (Moment ∷ [])
 row command.Answers = asks (codes "answers" ∷ []) []
+row command.Abandon = takes (codes "abandon" ∷ []) (Handle ∷ [])
 row command.Clock = takes (codes "clock" ∷ []) (Moment ∷ [])
 row command.Close = takes (codes "close" ∷ []) (Handle ∷ [])
 row command.Clean = takes (codes "clean" ∷ []) []
@@ -48,8 +49,10 @@ row command.SetPolicy = takes (codes "policy" ∷ []) (Path ∷ Policy ∷ [])
 row command.Read = takes (codes "read" ∷ []) (Source ∷ [])
 row command.Rename = takes (codes "rename" ∷ []) (Path ∷ Path ∷ [])
 row command.Revert = takes (codes "revert" ∷ []) (Path ∷ Version ∷ [])
+row command.Restore = takes (codes "restore" ∷ []) (Path ∷ Moment ∷ [])
 row command.RemoveDir = takes (codes "rmdir" ∷ []) (Path ∷ [])
 row command.Restorable = takes (codes "restorable" ∷ []) []
+row command.Save = takes (codes "save" ∷ []) (Path ∷ Bytes ∷ [])
 row command.Stat = takes (codes "stat" ∷ []) (Tagged ∷ [])
 row command.Tick = takes (codes "tick" ∷ []) (Number ∷ [])
 row command.Truncate = takes (codes "truncate" ∷ []) (Handle ∷ Number ∷ [])

@@ -13,6 +13,7 @@ use crate::kind::WordKind::{
 pub enum Command {
     Ahead,
     Answers,
+    Abandon,
     Clock,
     Close,
     Clean,
@@ -38,8 +39,10 @@ pub enum Command {
     Read,
     Rename,
     Revert,
+    Restore,
     RemoveDir,
     Restorable,
+    Save,
     Stat,
     Tick,
     Truncate,
@@ -74,9 +77,10 @@ pub type Row = (
 
 /// A row for each command, in the order of `Command`: those with one first letter stand together, and
 /// of these the ones that come often first.
-pub static ROWS: [Row; 40] = [
+pub static ROWS: [Row; 43] = [
     (Command::Ahead, "ahead", "", &[Moment], Explaining),
     (Command::Answers, "answers", "", &[], Explaining),
+    (Command::Abandon, "abandon", "", &[Handle], Always),
     (Command::Clock, "clock", "", &[Moment], Always),
     (Command::Close, "close", "", &[Handle], Always),
     (Command::Clean, "clean", "", &[], Always),
@@ -108,8 +112,10 @@ pub static ROWS: [Row; 40] = [
     (Command::Read, "read", "", &[Source], Always),
     (Command::Rename, "rename", "", &[Path, Path], Always),
     (Command::Revert, "revert", "", &[Path, Version], Always),
+    (Command::Restore, "restore", "", &[Path, Moment], Always),
     (Command::RemoveDir, "rmdir", "", &[Path], Always),
     (Command::Restorable, "restorable", "", &[], Always),
+    (Command::Save, "save", "", &[Path, Bytes], Always),
     (Command::Stat, "stat", "", &[Tagged], Always),
     (Command::Tick, "tick", "", &[Number], Always),
     (Command::Truncate, "truncate", "", &[Handle, Number], Always),
@@ -153,7 +159,7 @@ pub enum Topic {
 }
 
 /// For help, what each command is about and how it is answered, in the order of `Command`.
-pub static HELP: [(Topic, &str); 40] = [
+pub static HELP: [(Topic, &str); 43] = [
     (
         Topic::Why,
         "ok ahead K, then K lines - RIPE FILE NUMBER in order",
@@ -162,6 +168,7 @@ pub static HELP: [(Topic, &str); 40] = [
         Topic::Why,
         "ok answers F K, then K lines - LINE in order, each with its answer below",
     ),
+    (Topic::Contents, "ok done"),
     (Topic::Time, "ok now S TEXT"),
     (Topic::Contents, "ok closed, or ok closed version V"),
     (
@@ -211,11 +218,13 @@ pub static HELP: [(Topic, &str); 40] = [
     (Topic::Questions, "ok bytes LENGTH X"),
     (Topic::Names, "ok done"),
     (Topic::Contents, "ok version V"),
+    (Topic::Contents, "ok version V"),
     (Topic::Names, "ok done"),
     (
         Topic::Questions,
         "ok restorable K, then K lines - DIR NAME file F or - DIR NAME directory D in order",
     ),
+    (Topic::Contents, "ok version V"),
     (
         Topic::Questions,
         "ok file F version N opened O closed C ended E length L policy POL, or ok directory D default POL",

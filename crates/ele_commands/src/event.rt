@@ -71,8 +71,19 @@ pub fn put_event<W: Write>(event: &Event, printer: &mut Printer<'_, W>)
             )
         }
         Event::Close(handle) => put_parts(Command::Close, &[Number(handle.0)], printer),
+        Event::Abandon(handle) => put_parts(Command::Abandon, &[Number(handle.0)], printer),
+        Event::Save(path, bytes) => {
+            put_parts(
+                Command::Save,
+                &[Path(path), Bytes(bytes.as_slice())],
+                printer,
+            )
+        }
         Event::Revert(path, number) => {
             put_parts(Command::Revert, &[Path(path), Number(number.0)], printer)
+        }
+        Event::Restore(path, moment) => {
+            put_parts(Command::Restore, &[Path(path), Moment(*moment)], printer)
         }
         Event::SetPolicy(path, policy) => {
             put_parts(

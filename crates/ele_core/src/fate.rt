@@ -1,6 +1,6 @@
 //! Explains what becomes of a held version, and which versions will be due. Neither call changes
 //! anything.
-ghost use Rattle.std.specs.Prelude.{◌≡◌, false, IfOk, IfSome, IfNone};
+ghost use Rattle.std.specs.Prelude.{◌≡◌, ◌≢◌, [], false, IfOk, OnErr, IfSome, IfNone};
 ghost use Rattle.ele_model.specs.Change.{Time, after_change};
 ghost use Rattle.ele_model.specs.Fate.{HasFate};
 ghost use Rattle.ele_model.specs.Scan.{scan};
@@ -28,12 +28,14 @@ impl Core {
     /// then, in order of removal. For a moment before now these are the keys of versions that are
     /// due now and were ripe by then.
     ///
-    /// `NoMemory` if memory is refused.
+    /// `NoMemory` if memory is refused. If there is no such version, it takes none.
     /// Cost: grows with the keys in the answer, which take memory, and the logarithm of the queued
     /// keys.
     pub fn due_by(&self, moment: Moment) -> Result<KeyList, NoMemory>
-        ensures { IfOk result
+        ensures keys { IfOk result
             (λ keys. keys ≡ scan (after_change self.now.world (Time moment))) }
+        ensures taken { OnErr result
+            (scan (after_change self.now.world (Time moment)) ≢ []) }
     {
         self.state.due_by(moment)
     }

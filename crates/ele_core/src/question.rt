@@ -1,6 +1,7 @@
 //! The events that ask, and other questions. None changes anything.
 ghost use Rattle.std.specs.Prelude.{◌≡◌, IfOk, map};
 ghost use Rattle.ele_events.specs.Does.{Does, DoesAtOnce, stat_told};
+ghost use Rattle.ele_model.specs.CountsOf.{counts_of};
 ghost use Rattle.ele_model.specs.Due.{is_due};
 ghost use Rattle.ele_model.specs.Restorable.{restorable, triple_of};
 ghost use Rattle.ele_model.specs.Scan.{scan, first_due};
@@ -11,8 +12,9 @@ ghost use Rattle.ele_model.specs.declared.reply.Reply.TheVariants.{Bytes, NameLi
 use crate::Core;
 use ele_events::{Halt, Stat};
 use ele_model::{
-    ByteList, DeadNameList, DirId, FileId, GroupList, Key, KeyList, Name, NameList, NoMemory,
-    PathAt, Refusal, Source, StampsList, TaggedPath, Target, Usage, VersionNo, triples_of,
+    ByteList, Counts, DeadNameList, DirId, FileId, GroupList, Key, KeyList, Name, NameList,
+    NoMemory, PathAt, Refusal, Source, StampsList, TaggedPath, Target, Usage, VersionNo,
+    triples_of,
 };
 
 impl Core {
@@ -141,5 +143,14 @@ impl Core {
         ensures { result ≡ first_due self.now.world }
     {
         self.state.due_first()
+    }
+
+    /// Returns how many of each kind were ever made, as the limits count them: open drafts count as
+    /// versions.
+    /// Cost: constant time.
+    pub fn counts(&self) -> Counts
+        ensures { result ≡ counts_of self.now.world }
+    {
+        self.state.counts()
     }
 }

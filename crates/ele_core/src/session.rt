@@ -1,11 +1,11 @@
 //! The events of handles and drafts.
-ghost use Rattle.ele_events.specs.Does.{Does, done};
+ghost use Rattle.ele_events.specs.Does.{Does, DoesAtOnce, done};
 ghost use Rattle.ele_model.specs.declared.event.Event.TheVariants as event;
 ghost use Rattle.ele_model.specs.declared.reply.Reply.TheVariants as reply;
 
 use crate::Core;
 use ele_events::Halt;
-use ele_model::{ByteList, Handle, Path, TaggedPath, VersionNo};
+use ele_model::{ByteList, Handle, Path, Refusal, TaggedPath, VersionNo};
 
 impl Core {
     /// Opens a handle that writes the file at the path. Refused: `NoEntry`, `NotDirectory`,
@@ -67,5 +67,16 @@ impl Core {
         ensures { Does reply.Closed self.old.world (event.Close handle) result self.new.world }
     {
         ele_events::close(&mut self.state, handle)
+    }
+
+    /// Ends the handle, which writes a file, and makes no version: if no other handle writes the
+    /// file, its draft is removed with all that was written to it. A file without live name,
+    /// version and draft is then dropped. It takes no memory. Refused: `NoHandle`, `NotWriter`.
+    /// Cost: that of a `close` that drops an unchanged draft.
+    #[tactic(auto, using(crate::proofs::Reached::does_at_once))]
+    pub fn abandon(&mut self, handle: Handle) -> Result<(), Refusal>
+        ensures { DoesAtOnce done self.old.world (event.Abandon handle) result self.new.world }
+    {
+        ele_events::abandon(&mut self.state, handle)
     }
 }

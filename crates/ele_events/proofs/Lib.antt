@@ -2,3 +2,5 @@
 pub mod Meant
 -- a handle that begins a draft
 pub mod Opened
+-- the version that a path had at a moment
+pub mod HadVersions

@@ -27,6 +27,12 @@ module _ {X : Type 0} where
   Does told before event (Err (halt.Refused refusal)) after = (Refused refusal, after) ≡ step before event
   Does told before event (Err halt.NoMemory) after = (after ≡ before) × (refuses before event ≡ false)
 
+  -- the same for a part of a call, which gives this answer
+  abbrev pub Gives : (X → Reply) → World → Reply × World → Result X Halt → World → Type 0
+  Gives told before answer (Ok x) after = (told x, after) ≡ answer
+  Gives told before answer (Err (halt.Refused refusal)) after = (Refused refusal, after) ≡ answer
+  Gives told before answer (Err halt.NoMemory) after = (after ≡ before) × (is_refused answer.0 ≡ false)
+
   -- the same for a call that takes no memory
   abbrev pub DoesAtOnce : (X → Reply) → World → Event → Result X Refusal → World → Type 0
   DoesAtOnce told before event (Ok x) after = (told x, after) ≡ step before event

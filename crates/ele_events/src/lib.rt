@@ -10,7 +10,9 @@ mod halt;
 mod name;
 mod place;
 mod question;
+mod saving;
 mod session;
+mod then;
 mod time;
 mod version;
 
@@ -20,6 +22,7 @@ pub use crate::group::{add_to_group, drop_group, make_group, mark, remove_from_g
 pub use crate::halt::Halt;
 pub use crate::name::{create, link, rename, undelete, unlink};
 pub use crate::question::{Stat, list, read, stat_at, versions};
-pub use crate::session::{close, open_read, open_write, truncate, write};
+pub use crate::saving::{restore, save};
+pub use crate::session::{abandon, close, open_read, open_write, truncate, write};
 pub use crate::time::{clock, tick};
 pub use crate::version::{revert, set_policy};

@@ -78,5 +78,6 @@ pub fn undelete(state: &mut State, path: &Path) -> Result<Option<VersionNo>, Hal
     check!(refuse_if(state.has_draft(file), Refusal::Drafting));
     check!(room_for(state, Which::Names));
     check!(room_for(state, Which::Versions));
-    Ok(Some(state.revive(directory, name, file)?))
+    let last = state.last_number(file);
+    Ok(Some(state.revive(directory, name, file, last)?))
 }

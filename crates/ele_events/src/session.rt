@@ -1,5 +1,5 @@
 //! The events of handles and drafts.
-ghost use Rattle.ele_events.specs.Does.{Does, done};
+ghost use Rattle.ele_events.specs.Does.{Does, DoesAtOnce, done};
 ghost use Rattle.ele_model.specs.declared.event.Event.TheVariants as event;
 ghost use Rattle.ele_model.specs.declared.reply.Reply.TheVariants as reply;
 
@@ -66,4 +66,16 @@ pub fn close(state: &mut State, handle: Handle) -> Result<Option<VersionNo>, Hal
 {
     let found = check!(state.handle(handle));
     Ok(state.close(&found)?)
+}
+
+/// Ends the handle, which writes a file, and makes no version. If no other handle writes the file,
+/// its draft is removed.
+#[inline(never)]
+pub fn abandon(state: &mut State, handle: Handle) -> Result<(), Refusal>
+    ensures { DoesAtOnce done state.old.world (event.Abandon handle) result state.new.world }
+{
+    let file = check!(state.file_by(handle));
+    let found = check!(state.handle(handle));
+    state.abandon(&found, file);
+    Ok(())
 }

@@ -1,8 +1,9 @@
 -- A file's next version is appended: the first one of a new file, or a held one that is restored.
-use Rattle.ele_files.proofs.Words.{AllByRecursion, AllLater, AllSessions, Append, Bool, Draft, File, FileRow, GotFile, HasAppended, Held, IsDraftKept, IsFileKept, IsLocal, IsRowOf, IsRowPast, IsStocked, Keeps, Layout, List, LogRow, None, Some, StockLaws, Store, VersionRow, World, [], after_change, all-both, all_found, all-map, all-push, all-weaker, ap, append_nil, arith, bucket_changes, content_of, empty_layout, ended_at, ended_rows, false, file_row, find, find-at, flat_map, flat_map-append, held_in, insert_before, is_file, is_id, is_live, is_version, is_version_after, later-push, length, local-after, local-insert_before, local-update_first, map, map-all, map-append, named_live, nat_tests, next_of, next_of-numbered_other, next_of-push, next_row, not_found, numbered_on, refl, row_in, row_stock, rows_in, rows_of, shown, stock_of, subst, sym, true, update_first, update_first-at, with_file, with_name, with_rows, ℕ, ◌++◌, ◌+◌, ◌-◌, ◌<◌, ◌∙◌, ◌∷◌, ◌≡◌, ◌≢◌, Became, HeldRows, IsPast, IsSome, LivesIn, Moves, Stays, cells_of_version, get_or, has_number, list_any, position, set}
+use Rattle.ele_files.proofs.Words.{AllByRecursion, AllLater, AllSessions, Append, Bool, Draft, File, FileRow, GotFile, HasAppended, Held, IsDraftKept, IsFileKept, IsLocal, IsRowOf, IsRowPast, IsStocked, Keeps, Layout, List, LogRow, None, Some, StockLaws, Store, VersionRow, World, [], after_change, all-both, all_found, all-map, all-push, all-weaker, ap, append_nil, arith, bucket_changes, content_of, empty_layout, ended_at, ended_rows, false, file_row, find, find-at, flat_map, flat_map-append, held_in, insert_before, is_file, is_id, is_live, is_version, is_version_after, later-push, length, local-after, local-insert_before, local-update_first, map, map-all, map-append, named_live, nat_tests, next_of, next_of-numbered_other, next_of-push, next_row, not_found, numbered_on, refl, row_in, row_stock, rows_in, rows_of, shown, stock_of, subst, sym, true, update_first, update_first-at, with_file, with_name, with_rows, ℕ, ◌++◌, ◌+◌, ◌-◌, ◌<◌, ◌∙◌, ◌∷◌, ◌≡◌, ◌≢◌, Became, Cell, HeldRows, IsPast, IsSome, IsWritten, LivesIn, Moves, Stays, Tagged, cells_by, cells_of_version, get_or, has_number, list_any, position, set}
 use Rattle.ele_files.proofs.Endings.{closed_kept, of_rows, its_kept, its_past}
 use Rattle.ele_files.proofs.Exchanges.{after, rise_over, files_over, rows_over, IsReached, reached}
 use Rattle.ele_files.proofs.Rows.{its_id, next_found, file_of, tagged, own_version, ended_shown, undrafted, no_file, version_none, version_of}
+use Rattle.ele_files.proofs.Drafts.{all_earlier}
 use Rattle.ele_files.proofs.Stock.{over, row_added, file_added, row_copied, row_same, held_stays, row_lives}
 use Rattle.ele_model.specs.declared.rows.Target.TheVariants as target
 use Rattle.ele_model.specs.World as world
@@ -107,12 +108,31 @@ module _ (s : Store) (files : List File) (a : AllSessions) (kept : Keeps s files
         rows : rows_of (with_name (with_file (with_rows w (held_in s files a)) f.id f.policy) directory name (target.File f.id)) ≡ held_in s (files ++ f ∷ []) a
         rows = rw (more_rows, flat_map-append (rows_in s) files (f ∷ []), none, append_nil (flat_map (rows_in s) files), next) refl
 
--- what the files and the store are then
-pub record IsRestored (t : Store) (was : Held) (file restored now : ℕ) (live : Bool) (next size : ℕ) (files : List File) (a : AllSessions) : Type 0 where
+-- what the files and the store are once the file's next version has these cells
+pub record IsGrown (t : Store) (was : Held) (file : ℕ) (cells : List Cell) (now : ℕ) (live : Bool) (next size : ℕ) (files : List File) (a : AllSessions) : Type 0 where
   pub keeps : Keeps t files a
   pub number : next ≡ next_of was.files file
-  pub long : size ≡ length (content_of (cells_of_version was file restored))
-  pub shows : Became was now file live (Append file now (cells_of_version was file restored) ∷ []) (held_in t files a)
+  pub long : size ≡ length (content_of cells)
+  pub shows : Became was now file live (Append file now cells ∷ []) (held_in t files a)
+
+module _ (s : Store) (files : List File) (a : AllSessions) (kept : Keeps s files a) (file i : ℕ) (f : File) (place : Some i ≡ position (is_id file) files) (is : f ≡ get_or files i f) (these : HeldRows) (rows_stay : these.rows ≡ f.log.rows) (alone : list_any (world.is_draft file) (held_in s files a).drafts ≡ false) where
+  abbrev reached_at : IsReached files file i f
+  reached_at = reached files file i f place is
+
+  -- the store has the map of the version, and the file at its place has the version
+  module _ (t : Store) (now : ℕ) (live : Bool) (m : Layout) (came : Stays s t (stock_of files a.drafts) (row_stock f.id (next_row f.next now now live m) ∷ stock_of files a.drafts)) (cells : List Cell) (seen : shown t m ≡ cells) (l : File) (appended : HasAppended (record f { log = these }) l now (next_row f.next now now live m)) (past : AllByRecursion (IsPast now) (held_in s files a).versions) where
+    f_appended : HasAppended f l now (next_row f.next now now live m)
+    f_appended = record { id = appended.id; policy = appended.policy; next = appended.next; rows = appended.rows ∙ rw rows_stay refl }
+
+    pub grown : IsGrown t (held_in s files a) file cells now live f.next m.size (set files i l) a
+    grown = record {
+      keeps = rw (reached_at.changed l appended.id appended.policy) (appended_keeps t files file f l reached_at.found kept.rise kept.files_kept now now live m f_appended (its_past s files a kept file i f place is now past) kept.laws a kept.drafts_kept (undrafted s file a.drafts alone) came.stocked);
+      number = sym (next_found files file (Some f) reached_at.found);
+      long = rw (← seen) (sym (kept.laws.long t m (kept.laws.lives t (row_stock f.id (next_row f.next now now live m)) (stock_of files a.drafts) came.stocked)));
+      shows = λ w time lives. rw (reached_at.changed l appended.id appended.policy, ← seen) (appended_shows t files file f l reached_at.found kept.rise kept.files_kept now now live m f_appended (its_past s files a kept file i f place is now past) a (with_rows w (held_in s files a)) (sym (held_stays s t files a came.shows)) time lives);
+    }
+
+-- ---- the version of that number is restored
 
 module _ (s : Store) (files : List File) (a : AllSessions) (kept : Keeps s files a) (file number : ℕ) (some : IsSome (find (is_version file number) (held_in s files a).versions)) where
   -- the version's file is there
@@ -122,9 +142,6 @@ module _ (s : Store) (files : List File) (a : AllSessions) (kept : Keeps s files
   module _ (i : ℕ) (f : File) (place : Some i ≡ position (is_id file) files) (is : f ≡ get_or files i f) (these : HeldRows) (rows_stay : these.rows ≡ f.log.rows) where
     abbrev at : IsReached files file i f
     at = reached files file i f place is
-
-    abbrev k : File
-    k = record f { log = these }
 
     -- and its row
     pub not_lost : None ≡ find (has_number number) these.rows → ⊥
@@ -137,25 +154,33 @@ module _ (s : Store) (files : List File) (a : AllSessions) (kept : Keeps s files
       pub lives : LivesIn s row.cells
       lives = row_lives s files a kept file (has_number number) f row at.found its_row
 
-      module _ (t : Store) (moves : Moves s t [] (row.cells ∷ [])) (alone : list_any (world.is_draft file) (held_in s files a).drafts ≡ false) (now : ℕ) (live : Bool) (m : Layout) (same : m ≡ row.cells) (l : File) (appended : HasAppended k l now (next_row f.next now now live m)) (past : AllByRecursion (IsPast now) (held_in s files a).versions) where
-        abbrev again : LogRow
-        again = next_row f.next now now live row.cells
-
-        f_appended : HasAppended f l now again
-        f_appended = record { id = appended.id; policy = appended.policy; next = appended.next; rows = rw (← same) (appended.rows ∙ rw rows_stay refl) }
-
-        came : Stays s t (stock_of files a.drafts) (row_stock f.id again ∷ stock_of files a.drafts)
-        came =
+      module _ (t : Store) (moves : Moves s t [] (row.cells ∷ [])) (alone : list_any (world.is_draft file) (held_in s files a).drafts ≡ false) (now : ℕ) (live : Bool) (m : Layout) (same : m ≡ row.cells) (l : File) (appended : HasAppended (record f { log = these }) l now (next_row f.next now now live m)) (past : AllByRecursion (IsPast now) (held_in s files a).versions) where
+        again : Stays s t (stock_of files a.drafts) (row_stock f.id (next_row f.next now now live row.cells) ∷ stock_of files a.drafts)
+        again =
             let below = (all_found (has_number number) (IsRowOf f.next) f.log.rows row its_row (its_kept s files a kept file i f place is).rows).number in
-            row_copied s t files a kept file f at.found (has_number number) row its_row moves (f.next + 1) (omega (arith, below)) (row_stock f.id again ∷ stock_of files a.drafts) (record { sums = λ x. refl })
+            row_copied s t files a kept file f at.found (has_number number) row its_row moves (f.next + 1) (omega (arith, below)) (row_stock f.id (next_row f.next now now live row.cells) ∷ stock_of files a.drafts) (record { sums = λ x. refl })
 
         cells : cells_of_version (held_in s files a) file number ≡ shown t row.cells
-        cells = rw (version_of s file number files kept.rise f at.found, its_row) (sym (row_same s t files a kept file f at.found (has_number number) row its_row came.shows))
+        cells = rw (version_of s file number files kept.rise f at.found, its_row) (sym (row_same s t files a kept file f at.found (has_number number) row its_row again.shows))
 
-        pub restored : IsRestored t (held_in s files a) file number now live f.next m.size (set files i l) a
-        restored = record {
-          keeps = rw (at.changed l appended.id appended.policy) (appended_keeps t files file f l at.found kept.rise kept.files_kept now now live row.cells f_appended (its_past s files a kept file i f place is now past) kept.laws a kept.drafts_kept (undrafted s file a.drafts alone) came.stocked);
-          number = sym (next_found files file (Some f) at.found);
-          long = rw (same, version_of s file number files kept.rise f at.found, its_row) (sym (kept.laws.long s row.cells lives));
-          shows = λ w time lives. rw (at.changed l appended.id appended.policy, cells) (appended_shows t files file f l at.found kept.rise kept.files_kept now now live row.cells f_appended (its_past s files a kept file i f place is now past) a (with_rows w (held_in s files a)) (sym (held_stays s t files a came.shows)) time lives);
-        }
+        pub restored : IsGrown t (held_in s files a) file (cells_of_version (held_in s files a) file number) now live f.next m.size (set files i l) a
+        restored = grown s files a kept file i f place is these rows_stay alone t now live m (rw same again) (cells_of_version (held_in s files a) file number) (rw same (sym cells)) l appended past
+
+-- ---- the version has given bytes
+
+module _ (s : Store) (files : List File) (a : AllSessions) (kept : Keeps s files a) (file i : ℕ) (f : File) (place : Some i ≡ position (is_id file) files) (is : f ≡ get_or files i f) (these : HeldRows) (rows_stay : these.rows ≡ f.log.rows) (alone : list_any (world.is_draft file) (held_in s files a).drafts ≡ false) where
+  abbrev its : IsReached files file i f
+  its = reached files file i f place is
+
+  module _ (t : Store) (now : ℕ) (live : Bool) (bytes : List ℕ) (m : Layout) (written : IsWritten s t f.next 0 bytes empty_layout m) where
+    -- its map was that of no bytes, which no store counts
+    laid : Stays s t (stock_of files a.drafts) (row_stock f.id (next_row f.next now now live m) ∷ stock_of files a.drafts)
+    laid =
+        let stock = stock_of files a.drafts in
+        let tag : Tagged = record { file = f.id; below = f.next + 1; layout = empty_layout } in
+        let next = sym (next_found files file (Some f) its.found) in
+        let earlier = all_earlier files a.drafts file f.next next kept.rise kept.files_kept (undrafted s file a.drafts alone) in
+        kept.laws.rewritten s t (tag ∷ stock) tag stock f.next _ m (row_stock f.id (next_row f.next now now live m) ∷ stock) (kept.laws.empty s f.id (f.next + 1) stock kept.stocked) (record { sums = λ k. refl }) refl (rw (its_id files file f its.found) earlier) written.moves written.renews (record { sums = λ k. refl })
+
+    pub saved : (l : File) → HasAppended (record f { log = these }) l now (next_row f.next now now live m) → AllByRecursion (IsPast now) (held_in s files a).versions → IsGrown t (held_in s files a) file (cells_by (next_of (map file_row files) file) bytes) now live f.next m.size (set files i l) a
+    saved l appended past = rw (next_found files file (Some f) its.found) (grown s files a kept file i f place is these rows_stay alone t now live m laid (cells_by f.next bytes) written.cells l appended past)

@@ -24,6 +24,13 @@ next_each (f ∷ files) file later = elim (eqb f.id file) as (λ b. eqb f.id fil
   | false ↦ λ e. (λ is. absurd (let same : eqb f.id file ≡ true = grind (arith, nat_tests) in cc), next_each files file later.1)
 ] refl
 
+-- beside its draft, no map of a file is by a writer as late as its next version
+file_earlier : (file next : ℕ) (f : File) → IsFileKept f → (f.id ≡ file → f.next ≡ next) → AllByRecursion (IsEarlier file next) (file_stock f)
+file_earlier file next f is same_next = all-map (row_stock f.id) (IsEarlier file next) f.log.rows (all-weaker (IsRowOf f.next) (λ row. IsEarlier file next (row_stock f.id row)) f.log.rows (λ row h. record { earlier = λ same. omega (arith, h.number, same_next same) }) is.rows)
+
+pub all_earlier : (files : List File) (drafts : List Draft) (file next : ℕ) → next ≡ next_of (map file_row files) file → AllLater (λ x y. x.id < y.id) files → AllByRecursion IsFileKept files → AllByRecursion (λ (d : Draft). d.file ≢ file) drafts → AllByRecursion (IsEarlier file next) (stock_of files drafts)
+all_earlier files drafts file next is rise kept others = all-append (IsEarlier file next) (flat_map file_stock files) (map draft_stock drafts) (all-flat_map file_stock (IsEarlier file next) (λ f. IsFileKept f × (f.id ≡ file → f.next ≡ next)) files (λ f h. file_earlier file next f h.0 h.1) (all-both IsFileKept (λ f. f.id ≡ file → f.next ≡ next) files kept (all-weaker (λ f. f.id ≡ file → f.next ≡ next_of (map file_row files) file) (λ f. f.id ≡ file → f.next ≡ next) files (λ f h same. h same ∙ sym is) (next_each files file rise)))) (all-map draft_stock (IsEarlier file next) drafts (all-weaker (λ (d : Draft). d.file ≢ file) (λ (d : Draft). IsEarlier file next (draft_stock d)) drafts (λ d other. record { earlier = λ same. absurd (other same) }) others))
+
 module _ (s t : Store) (files : List File) (a b : AllSessions) (kept : Keeps s files a) (file : ℕ) (d : Draft) (found : find (is_draft file) a.drafts ≡ Some d) where
   abbrev pub fewer : List Draft
   fewer = remove_first (is_draft file) a.drafts
@@ -50,12 +57,8 @@ module _ (s t : Store) (files : List File) (a b : AllSessions) (kept : Keeps s f
     pub its_number : d.number ≡ next_of (map file_row files) file
     its_number = d_kept.number ∙ ap (next_of (map file_row files)) (its_file file a.drafts d found)
 
-    -- no other map of the file is by so late a writer
-    file_earlier : (f : File) → IsFileKept f → (f.id ≡ d.file → f.next ≡ d.number) → AllByRecursion (IsEarlier d.file d.number) (file_stock f)
-    file_earlier f is next = all-map (row_stock f.id) (IsEarlier d.file d.number) f.log.rows (all-weaker (IsRowOf f.next) (λ row. IsEarlier d.file d.number (row_stock f.id row)) f.log.rows (λ row h. record { earlier = λ same. omega (arith, h.number, next same) }) is.rows)
-
     others_earlier : AllByRecursion (IsEarlier d.file d.number) (stock_of files fewer)
-    others_earlier = all-append (IsEarlier d.file d.number) (flat_map file_stock files) (map draft_stock fewer) (all-flat_map file_stock (IsEarlier d.file d.number) (λ f. IsFileKept f × (f.id ≡ d.file → f.next ≡ d.number)) files (λ f h. file_earlier f h.0 h.1) (all-both IsFileKept (λ f. f.id ≡ d.file → f.next ≡ d.number) files kept.files_kept (all-weaker (λ f. f.id ≡ d.file → f.next ≡ next_of (map file_row files) d.file) (λ f. f.id ≡ d.file → f.next ≡ d.number) files (λ f h same. h same ∙ sym d_kept.number) (next_each files d.file kept.rise)))) (all-map draft_stock (IsEarlier d.file d.number) fewer (all-weaker (λ x. x.file ≢ file) (λ x. IsEarlier d.file d.number (draft_stock x)) fewer (λ x other. record { earlier = λ same. absurd (other (same ∙ its_file file a.drafts d found)) }) (drafts_apart file a.drafts rise)))
+    others_earlier = let is = its_file file a.drafts d found in all_earlier files fewer d.file d.number d_kept.number kept.rise kept.files_kept (rw is (drafts_apart file a.drafts rise))
 
     changes : Stays s t (stock_of files fewer) (stock_of files (update_first (is_draft file) (rewritten_by now) a.drafts))
     changes = kept.laws.rewritten s t (stock_of files a.drafts) (draft_stock d) (stock_of files fewer) d.number renewed now (stock_of files (update_first (is_draft file) (rewritten_by now) a.drafts)) kept.stocked (draft_apart files a.drafts (is_draft file) d found) refl others_earlier moves renews (draft_changed files a.drafts (is_draft file) (rewritten_by now) d found)

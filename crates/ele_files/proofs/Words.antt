@@ -51,6 +51,7 @@ pub use Rattle.ele_model.specs.FileView.{is_version_of}
 pub use Rattle.ele_model.specs.Neighbours.{is_newer_of, newer_held, newest_of, next_closing, with_newer}
 pub use Rattle.ele_model.specs.NewPlaces.{is_among}
 pub use Rattle.ele_model.specs.Tagged.{had_closed, had_life, held_or_forgotten, last_number, version_living, version_meant, version_numbered}
+pub use Rattle.ele_model.specs.Step.{cells_by}
 pub use Rattle.ele_model.specs.Told.{info_of}
 pub use Rattle.ele_model.specs.Usage.{bytes_in, places, places_from}
 pub use Rattle.ele_model.specs.World.{World, file_by, file_written, is_file, is_handle, is_live, is_open, is_version, is_version_after, is_writer, next_of, policy_of, reads_by, reads_version, writes}

@@ -25,6 +25,7 @@ pub mod neighbours;
 pub mod newer;
 pub mod reading;
 mod restoring;
+mod saving;
 mod usage;
 mod versions;
 mod writing;

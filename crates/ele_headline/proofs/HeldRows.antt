@@ -1,7 +1,7 @@
 -- What a change does to the row of a version that is held before it: nothing, or it ends, or it is taken.
 use Rattle.ele_model.proofs.Basics.{◌≡◌, ◌==◌, ◌&&◌, ℕ, ◌<◌, ◌≤◌, Bool, true, false, cond, List, [], ◌∷◌, Option, None, refl, ap, arith, ◌⊎◌, inl, find, AllByRecursion, option_map, false≢true, nat_tests, update_first, remove_first, all-weaker}
 use Rattle.ele_model.proofs.Basics.{not_found, find-insert_before, find-remove_first, all-push, all-update_first, all-remove_first, all-found, found_passes, AllLater}
-use Rattle.ele_model.proofs.Words.{Cell, Change, MakeFile, SetFilePolicy, Append, Take, after_change, ended_at, next_version, with_end, with_file, with_name, with_version, EndFileName, Revive, DropIdle, without_name, current_cells, numbered_on, set_policy}
+use Rattle.ele_model.proofs.Words.{Cell, Change, MakeFile, SetFilePolicy, Append, Take, after_change, ended_at, next_version, with_end, with_file, with_name, with_version, EndFileName, Revive, DropIdle, without_name, version_cells, numbered_on, set_policy}
 use Rattle.ele_model.proofs.Words.{ArePlaced, World, next_of, is_version, is_version_after, is_live, is_file}
 use Rattle.ele_model.proofs.Dropped.{dropped_versions}
 use Rattle.ele_model.proofs.May.{MayBy, MayClean}
@@ -35,7 +35,7 @@ pub change_past : (event : Event) (first w : World) (change : Change) (file numb
 change_past event first w (MakeFile directory name id policy) file number may is = grind (arith, nat_tests, past_numbered, all-push)
 change_past event first w (SetFilePolicy of policy) file number may is = grind (arith, nat_tests, all-update_first (is_file of) (IsBehind file number) (IsBehind file number) (set_policy policy) w.files)
 change_past event first w (Append of opened cells) file number may is = record { given = is.given; first = is.first; past = past_numbered w.files of file number is.past }
-change_past event first w (Revive directory name of) file number may is = record { given = is.given; first = is.first; past = past_numbered w.files of file number is.past }
+change_past event first w (Revive directory name of again) file number may is = record { given = is.given; first = is.first; past = past_numbered w.files of file number is.past }
 change_past event first w (DropIdle of) file number may is = grind (arith, nat_tests, all-remove_first)
 change_past event first w change file number may is = record { given = is.given; first = is.first; past = is.past }
 
@@ -76,7 +76,7 @@ module _ (event : Event) (first : World) (file number : ℕ) where
   pub change_moves : (w : World) (change : Change) → AllLater ArePlaced first.versions → MayBy event first w change → IsPast w file number → MovesTo w (after_change w change).versions
   change_moves w (MakeFile directory name id policy) placed may is = appends (with_name (with_file w id policy) directory name (File id)) id w.now [] (grind (arith, nat_tests, is.given, may.next))
   change_moves w (Append of opened cells) placed may is = appends w of opened cells (not_next w of file number opened cells is)
-  change_moves w (Revive directory name of) placed may is = appends (with_name w directory name (File of)) of w.now (current_cells w of) (not_next (with_name w directory name (File of)) of file number w.now (current_cells w of) (record { given = is.given; first = is.first; past = is.past }))
+  change_moves w (Revive directory name of again) placed may is = appends (with_name w directory name (File of)) of w.now (version_cells w of again) (not_next (with_name w directory name (File of)) of file number w.now (version_cells w of again) (record { given = is.given; first = is.first; past = is.past }))
   change_moves w (EndFileName directory name of) placed may is = by (is_live (without_name w directory name) of) where
     by : (b : Bool) → MovesTo w (cond b w.versions (with_end (without_name w directory name) of))
     by true = Same refl

@@ -2,7 +2,7 @@
 //! examples.
 
 /// What a command does, and an example or nothing, in the order of `Command`.
-pub(crate) static PARAGRAPHS: [(&str, &str); 40] = [
+pub(crate) static PARAGRAPHS: [(&str, &str); 43] = [
     // ahead
     (
         "Lists what 'due' would list at M if only the clock moves. It needs the option\n--explain. NotAhead if M is earlier than now.",
@@ -12,6 +12,11 @@ pub(crate) static PARAGRAPHS: [(&str, &str); 40] = [
     (
         "Prints how many events were folded (F), how many are stored (K), and each stored one with its answer below\nits line. It needs the option --explain. It is never refused.",
         "\nExample:\n    create /f    ok file 1\n    answers      ok answers 0 1\n                 - create /f\n                 ok file 1\n",
+    ),
+    // abandon
+    (
+        "Ends a handle that writes. If it was the last one that writes the file, the\ndraft is removed and makes no version. NotWriter if the handle is one that\nreads: see 'close'.",
+        "\nExample:\n    create /f        ok file 1\n    open write /f    ok handle 1\n    write 1 0 61     ok done\n    abandon 1        ok done\n    read /f          ok bytes 0 -\n",
     ),
     // clock
     (
@@ -138,6 +143,11 @@ pub(crate) static PARAGRAPHS: [(&str, &str); 40] = [
         "Makes a version with the content of version V of the file at P. Drafting if a\nhandle writes the file, Forgotten if V was removed.",
         "\nExample:\n    create /f        ok file 1\n    open write /f    ok handle 1\n    write 1 0 61     ok done\n    close 1          ok closed version 2\n    open write /f    ok handle 2\n    write 2 0 62     ok done\n    close 2          ok closed version 3\n    read /f          ok bytes 1 62\n    revert /f 2      ok version 4\n    read /f          ok bytes 1 61\n",
     ),
+    // restore
+    (
+        "Makes what P held at M its newest version. If P named nothing then, it is what\nthe file at P held under another name. A deleted name comes back. Drafting if a\nhandle writes the file, Forgotten if that version was removed.",
+        "\nExample:\n    save /f 61      ok version 2\n    tick 9          ok now 9 1970-01-01T00:00:09Z\n    save /f 62      ok version 3\n    restore /f 8    ok version 4\n    read /f         ok bytes 1 61\n",
+    ),
     // rmdir
     (
         "Removes the name of a directory. NotEmpty if something in it has a name.",
@@ -147,6 +157,11 @@ pub(crate) static PARAGRAPHS: [(&str, &str); 40] = [
     (
         "Lists the removed names that 'undelete' can restore. It is never refused.",
         "\nExample:\n    create /f     ok file 1\n    unlink /f     ok done\n    restorable    ok restorable 1\n                  - 0 f file 1\n",
+    ),
+    // save
+    (
+        "Makes a version of the file at P with the bytes X, without a handle. If P names\nnothing, it makes the file, with an empty version 1 before this one. Drafting if\na handle writes the file, IsDirectory if P is a directory.",
+        "\nExample:\n    save /f 6869    ok version 2\n    save /f 686f    ok version 3\n    read /f#2       ok bytes 2 6869\n",
     ),
     // stat
     (
@@ -160,7 +175,7 @@ pub(crate) static PARAGRAPHS: [(&str, &str); 40] = [
     ),
     // truncate
     (
-        "Cuts the draft of a handle to N bytes, or fills it with zeros. To save a whole\nnew content, send 'truncate H 0' and then the writes. NotWriter if the handle\nis one that reads.",
+        "Cuts the draft of a handle to N bytes, or fills it with zeros. To save a whole\nnew content that is too long for one line of 'save', send 'truncate H 0' and\nthen the writes. NotWriter if the handle is one that reads.",
         "\nExample:\n    create /f        ok file 1\n    open write /f    ok handle 1\n    truncate 1 4     ok done\n    close 1          ok closed version 2\n",
     ),
     // trim

@@ -25,7 +25,7 @@ fn is_named(row: &Row, first: &str, second: Option<&str>) -> bool
 
 // The place of a command in the tables.
 fn place_of(command: Command) -> usize
-    ensures { result < 40 }
+    ensures { result < 43 }
 {
     command as usize
 }

@@ -14,7 +14,7 @@ use Rattle.ele_model.proofs.PlanOutcomes.{outcome_of}
 pub change_keeps : (w : World) (change : Change) → May w change → HasParts w → HasParts (after_change w change)
 change_keeps w (Take file number) may k = take_keeps w file number may.ended may.unread k
 change_keeps w (Append file opened cells) may k = append_keeps w file opened cells may k
-change_keeps w (Revive directory name file) may k = revive_keeps w directory name file may k
+change_keeps w (Revive directory name file number) may k = revive_keeps w directory name file number may k
 change_keeps w (WriteDraft file offset bytes) may k = write_keeps w file offset bytes may k
 change_keeps w (TruncateDraft file size) may k = truncate_keeps w file size may k
 change_keeps w (EndDraft file) may k = end_keeps w file may k

@@ -1,6 +1,6 @@
--- The version that a tag means is one of its file that is held.
-use Rattle.ele_model.proofs.Basics.{◌≡◌, ℕ, Bool, true, List, Some, arith, find, Ok, nat_tests, found_passes, any-found}
-use Rattle.ele_model.proofs.Words.{Tag, TaggedPath, version_meant, version_numbered, version_at, World, is_held, is_version, FileRow, VersionRow}
+-- The version that a tag or a moment means is one of its file that is held.
+use Rattle.ele_model.proofs.Basics.{◌≡◌, ◌==◌, ℕ, Bool, true, List, Some, arith, find, Result, Ok, Err, nat_tests, found_passes, any-found}
+use Rattle.ele_model.proofs.Words.{Tag, TaggedPath, version_meant, version_numbered, version_at, row_then, version_then, walk_at, World, is_held, is_version, FileRow, Refusal, Target, VersionRow}
 use Rattle.ele_path.specs.declared.tagged.Tag.TheVariants as tag
 
 -- it was found by a test that only the file's versions pass
@@ -25,3 +25,15 @@ meant_held w file row is = any-found is.passes (is_version row.file row.number) 
 -- the version that a tagged path means
 pub is_at : (w : World) (tagged : TaggedPath) (row : VersionRow) → version_at w tagged ≡ Ok row → IsMeant w.versions row.file row
 is_at w tagged row is = grind (arith, nat_tests, is_meant w.files w.versions)
+
+-- the version that a path had at a moment
+row_is : (w : World) (path : List (List ℕ)) (moment : ℕ) (row : VersionRow) (led : Result Target Refusal) → row_then w path moment led ≡ Ok row → IsMeant w.versions row.file row
+row_is w path moment row (Ok target) is = grind (arith, nat_tests, is_meant w.files w.versions)
+row_is w path moment row (Err refusal) is = grind (arith, nat_tests, found_passes)
+
+pub then_is : (w : World) (path : List (List ℕ)) (moment : ℕ) (row : VersionRow) → version_then w path moment ≡ Ok row → IsMeant w.versions row.file row
+then_is w path moment row = row_is w path moment row (walk_at w.names moment w.now path)
+
+-- it may be one of the file that stands there now
+pub own_is : (w : World) (file : ℕ) (row : VersionRow) → (row.file == file) ≡ true → IsMeant w.versions row.file row → IsMeant w.versions file row
+own_is w file row own is = let same : row.file ≡ file = grind (arith, nat_tests, own) in rw (← same) is

@@ -1,9 +1,9 @@
 -- After an event each file has a live name, a held version or a draft. In a well-formed world a live file has a version, so what counts is
 -- whether each file has a version or a draft.
-use Rattle.ele_model.proofs.Basics.{rules, ◌≡◌, ◌==◌, ℕ, Bool, true, false, not, ◌||◌, List, [], ◌∷◌, arith, AllByRecursion, list_any, false≢true, not-true, nat_tests, update_first, remove_first, filter-passes, all-push, all-weaker, all-both}
+use Rattle.ele_model.proofs.Basics.{rules, ◌≡◌, ◌==◌, ℕ, Bool, true, false, not, ◌||◌, ◌+◌, List, [], ◌∷◌, arith, AllByRecursion, list_any, false≢true, not-true, nat_tests, update_first, remove_first, filter-passes, all-push, all-weaker, all-both}
 use Rattle.ele_model.proofs.Basics.{all-update_first, all-remove_first, found_passes, list_any-update_first, list_any-insert_before, list_any-remove_first, any-found, remove_first-key}
-use Rattle.ele_model.proofs.Words.{Change, Cell, Policy, Take, MakeFile, SetFilePolicy, EndFileName, EndDraft, DropIdle, ShutHandle, StartDraft, after_change, is_idle, numbered_on, set_policy, with_file, with_name, with_version, without_file, is_version_of, IsEvent}
-use Rattle.ele_model.proofs.Words.{HasNoIdle, run_of, plan, step, Files, Current, HasParts, World, is_file, is_draft, has_draft, Event, Close, CleanOne, Read, DraftRow, FileRow, File}
+use Rattle.ele_model.proofs.Words.{Change, Cell, Policy, Take, MakeFile, SetFilePolicy, EndFileName, EndDraft, DropIdle, ShutHandle, StartDraft, after_change, is_idle, numbered_on, set_policy, with_file, with_name, with_version, without_file, is_version_of, after_changes, is_handle, is_writer, IsEvent}
+use Rattle.ele_model.proofs.Words.{HasNoIdle, run_of, plan, step, Files, Current, HasParts, World, is_file, is_draft, has_draft, save_new_plan, content_of, default_of, Event, Close, Abandon, Save, Restore, CleanOne, Read, DraftRow, FileRow, File}
 use Rattle.ele_lists.proofs.Cuts.{any-found as first_passing}
 use Rattle.ele_model.proofs.Allowed.{takes}
 use Rattle.ele_model.proofs.Dropped.{dropped}
@@ -92,6 +92,19 @@ change_settles w change leaves k none = idle_none (after_change w change) (busy_
 
 -- ---- each event
 
+-- a file is made with two versions
+saved_new : (w : World) (at : ℕ × List ℕ) (bytes : List ℕ) → AreBusy w → AfterAll w (λ answer. AreBusy (answer.1)) (save_new_plan w at bytes)
+saved_new w at bytes all = λ files names versions.
+    let id = w.made.files + 1 in
+    let policy = default_of w.directories at.0 in
+    grown (after_change w (MakeFile at.0 at.1 id policy)) id w.now _ (made w at.0 at.1 id policy all)
+
+-- the last writer's draft goes
+abandoned : (w : World) (handle file : ℕ) → list_any (is_writer file) (remove_first (is_handle handle) w.handles) ≡ false → HasParts w → AreBusy w → AreBusy (after_changes w (ShutHandle handle ∷ EndDraft file ∷ DropIdle file ∷ []))
+abandoned w handle file last k all =
+    let shut = after_change w (ShutHandle handle) in
+    idle_gone (after_change shut (EndDraft file)) file (end_keeps shut file last (shut_keeps w handle k)) (ended shut file all)
+
 tidy : (w : World) (event : Event) → HasParts w → AreBusy w → AfterAll w (λ answer. AreBusy (answer.1)) (plan w event)
 tidy w (Close handle) k all = λ read found. (
   λ none. all,
@@ -100,13 +113,21 @@ tidy w (Close handle) k all = λ read found. (
     λ last. (
       λ none. all,
       λ draft drafted.
-          let shut = after_change w (ShutHandle handle) in
-          let u = after_change shut (EndDraft file) in (
-            λ changed. versioned u file draft.opened draft.cells (ended shut file all),
-            λ same. idle_gone u file (end_keeps shut file last (shut_keeps w handle k)) (ended shut file all),
+          let shut = after_change w (ShutHandle handle) in (
+            λ changed. versioned (after_change shut (EndDraft file)) file draft.opened draft.cells (ended shut file all),
+            λ same. abandoned w handle file last k all,
           ),
     ),
   ),
+)
+tidy w (Abandon handle) k all = λ file writes. (λ other. all, λ last. abandoned w handle file last k all)
+tidy w (Save path bytes) k all = λ at found standing stood fits. (λ none. saved_new w at bytes all, λ file is drafts versions. grown w file w.now _ all)
+tidy w (Restore path moment) k all = λ row was at found standing stood. (
+  λ none. (
+    λ live. saved_new w at (content_of row.cells) all,
+    λ nameless drafts names versions. grown (with_name w at.0 at.1 (File row.file)) row.file w.now _ all,
+  ),
+  λ file is. (λ own drafts versions. grown w file w.now _ all, λ other drafts versions. grown w file w.now _ all),
 )
 tidy w CleanOne k all = (λ none. all, λ key first. idle_gone (after_change w (Take key.file key.number)) key.file (event_keeps CleanOne w w (Take key.file key.number) tt (takes w key k first) k) (taken w key.file key.number all))
 tidy w (Read source) k all = grind (arith, nat_tests)

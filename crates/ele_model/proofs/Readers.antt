@@ -1,6 +1,6 @@
 -- Versions that handles read.
 use Rattle.ele_model.proofs.Basics.{arith, ◌≡◌, ℕ, true, false, ◌==◌, List, [], ◌∷◌, refl, list_any, nat_tests, all-weaker, Some, Ok, find}
-use Rattle.ele_model.proofs.Words.{numbers_read, AreHeldRead, is_open, is_version, HandleRow, VersionRow, World, Reads, is_handle, reads_by}
+use Rattle.ele_model.proofs.Words.{numbers_read, AreHeldRead, is_open, is_version, HandleRow, VersionRow, World, Reads, Draft, file_by, is_handle, reads_by}
 
 -- a version is open if its number is among those of its file that are read
 pub numbers_are : (rows : List HandleRow) (file number : ℕ) → list_any (λ n. n == number) (numbers_read rows file) ≡ is_open rows file number
@@ -25,3 +25,7 @@ pub record HasRow (w : World) (handle : ℕ) (reads : Reads) : Type 0 where
 
 pub has_row : (w : World) (handle : ℕ) (reads : Reads) → reads_by w.handles handle ≡ Ok reads → HasRow w handle reads
 has_row w handle reads is = grind (arith, nat_tests)
+
+-- a writer reads its file's draft
+pub reads_draft : (w : World) (handle file : ℕ) → file_by w.handles handle ≡ Ok file → reads_by w.handles handle ≡ Ok (Draft file)
+reads_draft w handle file written = grind (arith, nat_tests)

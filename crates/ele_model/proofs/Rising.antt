@@ -1,6 +1,6 @@
 -- The time, the counts and the files' numbers rise with each event.
 use Rattle.ele_model.proofs.Basics.{arith, ◌≡◌, ℕ, ◌+◌, ◌<◌, ◌≤◌, true, false, List, [], ◌∷◌, ◌++◌, refl, ◌⊎◌, inl, AllLater, list_any, update_first, remove_first, list_any-append, list_any-update_first, nat_tests, ◌==◌, ◌&&◌, not, all-weaker}
-use Rattle.ele_model.proofs.Words.{World, Event, Close, CleanOne, Create, Undelete, Revert, SetPolicy, default_of, Read, FileRow, Policy, HasParts, Files, DropIdle, EndDraft, ShutHandle, Take, MakeFile, after_change, is_file, next_of, numbered_on, set_policy, plan, Counts, without_file, step}
+use Rattle.ele_model.proofs.Words.{World, content_of, Event, Close, Abandon, CleanOne, Create, Undelete, Save, Revert, Restore, SetPolicy, default_of, Read, FileRow, Policy, HasParts, Files, DropIdle, EndDraft, ShutHandle, Take, MakeFile, after_change, is_file, next_of, numbered_on, set_policy, plan, save_new_plan, Counts, without_file, step}
 use Rattle.ele_model.specs.NumbersRise.{CountsOn, GoesOn}
 use Rattle.ele_model.proofs.Dropped.{dropped, next_of-removed}
 use Rattle.ele_model.proofs.Files.{next_of-numbered_le, next_of-set_policy, next_of-push}
@@ -75,12 +75,27 @@ module _ (w : World) (k : HasParts w) where
   numbered : (v : World) (file : ℕ) → w.now ≤ v.now → CountsOn w.made v.made → v.limits ≡ w.limits → v.files ≡ update_first (is_file file) numbered_on w.files → GoesOn w v
   numbered v file now made limits files = on v now made limits (rw files (number_on w.made.files file w.files w.files (stay_on w.made.files w.files)))
 
+  -- a file is made, and numbers on once more
+  saved_new : (at : ℕ × List ℕ) (bytes : List ℕ) → AfterAll w (λ answer. GoesOn w (answer.1)) (save_new_plan w at bytes)
+  saved_new at bytes = λ files names versions.
+      let id = w.made.files + 1 in
+      let row : FileRow = record { id = id; policy = default_of w.directories at.0; next = 1 } in
+      let more = w.files ++ row ∷ [] in
+      on _ (omega arith) (grind arith) refl
+      (number_on w.made.files id w.files (update_first (is_file id) numbered_on more) (number_on w.made.files id w.files more (one_more w.made.files w.files row (omega arith))))
+
   goes : (event : Event) → AfterAll w (λ answer. GoesOn w (answer.1)) (plan w event)
   goes (Close handle) = λ read found. (λ none. still _ refl refl refl refl, λ file writes. (λ other. still _ refl refl refl refl, λ last. (λ none. still _ refl refl refl refl, λ draft drafted. (λ edited. numbered _ file (omega arith) (grind arith) refl refl, λ fresh. drops (after_change (after_change w (ShutHandle handle)) (EndDraft file)) file refl refl refl refl))))
+  goes (Abandon handle) = λ file writes. (λ other. still _ refl refl refl refl, λ last. drops (after_change (after_change w (ShutHandle handle)) (EndDraft file)) file refl refl refl refl)
   goes CleanOne = (λ none. still w refl refl refl refl, λ key first. drops (after_change w (Take key.file key.number)) key.file refl refl refl refl)
   goes (Create path) = λ at found free files names versions. made at.0 at.1 (default_of w.directories at.0)
   goes (Undelete path) = λ at found free lost last returns. (λ none names. same _ (omega arith) (grind arith) refl refl, λ file none drafts names versions. numbered _ file (omega arith) (grind arith) refl refl)
+  goes (Save path bytes) = λ at found standing stood fits. (λ none. saved_new at bytes, λ file is drafts versions. numbered _ file (omega arith) (grind arith) refl refl)
   goes (Revert path number) = λ file found row meant drafts versions. numbered _ file (omega arith) (grind arith) refl refl
+  goes (Restore path moment) = λ row was at found standing stood. (
+    λ none. (λ live. saved_new at (content_of row.cells), λ nameless drafts names versions. numbered _ row.file (omega arith) (grind arith) refl refl),
+    λ file is. (λ own drafts versions. numbered _ file (omega arith) (grind arith) refl refl, λ other drafts versions. numbered _ file (omega arith) (grind arith) refl refl),
+  )
   goes (SetPolicy path policy) = λ file found. on _ (omega arith) (counts_stay w.made) refl (put_on w.made.files file policy w.files)
   goes (Read source) = grind (arith, nat_tests, same)
   goes event = grind (arith, nat_tests, same)

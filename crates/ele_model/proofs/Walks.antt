@@ -1,7 +1,8 @@
 -- What a path leads to, the place of its last name, and what an added name changes.
-use Rattle.ele_model.proofs.Basics.{◌≡◌, ℕ, suc, zero, ◌+◌, ◌-◌, ◌<◌, true, false, List, [], ◌∷◌, ◌++◌, length, take, Some, Result, Ok, refl, ap, ◌∙◌, arith, find, is_some, nil_from_length, slice_get_within, slice_get, AllByRecursion, list_any}
+use Rattle.ele_model.proofs.Basics.{◌≡◌, ℕ, suc, zero, ◌+◌, ◌-◌, ◌<◌, true, false, List, [], ◌∷◌, ◌++◌, length, take, Option, Some, None, Result, Ok, Err, refl, sym, get_or, option_map_or, ap, ◌∙◌, arith, find, is_some, nil_from_length, slice_get_within, slice_get, AllByRecursion, list_any}
 use Rattle.ele_model.proofs.Basics.{false≢true, nat_tests, find-append, bytes_eq-Decides, all-found, found_passes, any-found}
-use Rattle.ele_model.proofs.Words.{Refusal, FileRow, NameRow, Target, File, Directory, born_row, is_live_name, live_target, walk, walk_now, file_at, file_now, directory_now, parent_now, IsNameRow, IsThere, next_of, root, is_live_name_of}
+use Rattle.std.proofs.lemmas.Option.{slice_get-get_or}
+use Rattle.ele_model.proofs.Words.{Refusal, FileRow, NameRow, Target, File, Directory, NoEntry, born_row, is_live_name, live_target, walk, walk_now, file_at, file_now, file_standing, directory_now, parent_now, IsNameRow, IsThere, next_of, root, is_live_name_of}
 
 -- ---- what is true of each target of a live name is so of the place that a walk ends at
 
@@ -23,6 +24,22 @@ file_of r file h = grind (arith, nat_tests)
 pub file_there : (files : List FileRow) (now : ℕ) (rows : List NameRow) (path : List (List ℕ)) (file : ℕ) → AllByRecursion (IsNameRow files now) rows → file_now rows path ≡ Ok file → 0 < next_of files file
 file_there files now rows path file all h =
     walk_to (IsThere files) rows (λ directory name target. grind (arith, nat_tests, live_row, all-found)) (Directory root) (File file) path tt (file_of (walk_now rows path) file h)
+
+-- a place whose name stands has its file
+pub standing_is : (target : Option Target) (standing : Option ℕ) (file : ℕ) → file_standing target ≡ Ok standing → standing ≡ Some file → target ≡ Some (File file)
+standing_is None standing file h is = absurd cc
+standing_is (Some (File other)) standing file h is = cc
+standing_is (Some (Directory id)) standing file h is = absurd cc
+
+-- and a place whose name doesn't stand is free
+pub standing_free : (target : Option Target) (standing : Option ℕ) → file_standing target ≡ Ok standing → standing ≡ None → is_some target ≡ false
+standing_free None standing h none = refl
+standing_free (Some (File file)) standing h none = absurd cc
+standing_free (Some (Directory id)) standing h none = absurd cc
+
+-- the file at a place is there
+pub place_there : (files : List FileRow) (now : ℕ) (rows : List NameRow) (directory : ℕ) (name : List ℕ) (file : ℕ) → AllByRecursion (IsNameRow files now) rows → live_target rows directory name ≡ Some (File file) → 0 < next_of files file
+place_there files now rows directory name file all = live_row (IsThere files) rows directory name (File file) (λ row found. grind (arith, nat_tests, all-found))
 
 -- it is live
 abbrev pub IsLive : List NameRow → Target → Type 0
@@ -73,7 +90,53 @@ last_names rows path at target found leads = grind (arith, nat_tests, parent_is 
 pub last_leads : (rows : List NameRow) (path : List (List ℕ)) (at : ℕ × List ℕ) (directory : ℕ) → parent_now rows path ≡ Ok at → directory_now rows path ≡ Ok directory → live_target rows at.0 at.1 ≡ Some (Directory directory)
 last_leads rows path at directory found leads = grind (arith, nat_tests, last_names rows path at (Directory directory) found)
 
+-- the path leads to what the name at its place means
+pub place_leads : (rows : List NameRow) (path : List (List ℕ)) (at : ℕ × List ℕ) (target : Target) → parent_now rows path ≡ Ok at → live_target rows at.0 at.1 ≡ Some target → walk_now rows path ≡ Ok target
+place_leads rows path at target found stands =
+    let parent = parent_is rows path at found in
+    ap (walk_now rows) parent.whole
+    ∙ walk-on rows (Directory root) (Directory at.0) parent.front (at.1 ∷ []) parent.leads
+    ∙ rw stands refl
+
+-- a walk goes through the directory of its last name
+walk-through : (rows : List NameRow) (at target : Target) (names : List (List ℕ)) (name : List ℕ) → walk rows at (names ++ name ∷ []) ≡ Ok target → (directory : ℕ) × (walk rows at names ≡ Ok (Directory directory)) × (live_target rows directory name ≡ Some target)
+walk-through rows (File file) target [] name h = absurd cc
+walk-through rows (Directory directory) target [] name h = (directory, refl, grind (arith, nat_tests, h))
+walk-through rows (File file) target (m ∷ names) name h = absurd cc
+walk-through rows (Directory directory) target (m ∷ names) name h = by (live_target rows directory m) refl h (λ next. walk-through rows next target names name) where
+  by : (o : Option Target) → live_target rows directory m ≡ o → option_map_or (λ next. walk rows next (names ++ name ∷ [])) o (Err NoEntry) ≡ Ok target
+      → ((next : Target) → walk rows next (names ++ name ∷ []) ≡ Ok target → (last : ℕ) × (walk rows next names ≡ Ok (Directory last)) × (live_target rows last name ≡ Some target))
+      → (last : ℕ) × (walk rows (Directory directory) (m ∷ names) ≡ Ok (Directory last)) × (live_target rows last name ≡ Some target)
+  by None e h on = absurd cc
+  by (Some next) e h on = let (last, leads, stands) = on next h in (last, rw e leads, stands)
+
+-- the place of a file that a path names
+pub record HasPlace (rows : List NameRow) (path : List (List ℕ)) (file : ℕ) : Type 0 where
+  pub at : ℕ × List ℕ
+  pub home : parent_now rows path ≡ Ok at
+  pub stands : live_target rows at.0 at.1 ≡ Some (File file)
+
+pub file_place : (rows : List NameRow) (path : List (List ℕ)) (file : ℕ) → file_now rows path ≡ Ok file → HasPlace rows path file
+file_place rows [] file named = absurd cc
+file_place rows (n ∷ ns) file named =
+    let path : List (List ℕ) = n ∷ ns in
+    let last = length path - 1 in
+    let name = get_or path last n in
+    let there : slice_get path last ≡ Some name = slice_get-get_or path last n (omega arith) in
+    let whole = split-at path last name (omega arith) there in
+    let leads : walk_now rows (take last path ++ name ∷ []) ≡ Ok (File file) = ap (walk_now rows) (sym whole) ∙ file_of (walk_now rows path) file named in
+    let (directory, home, stands) = walk-through rows (Directory root) (File file) (take last path) name leads in
+    record { at = (directory, name); home = rw (there, home) refl; stands = stands }
+
 -- ---- a new name
+
+-- a path's place stays when a name is added
+pub parent-push : (rows : List NameRow) (row : NameRow) (path : List (List ℕ)) (at : ℕ × List ℕ) → parent_now rows path ≡ Ok at → parent_now (rows ++ row ∷ []) path ≡ Ok at
+parent-push rows row path at found = grind (arith, nat_tests, found, walk-push rows row)
+
+-- the new name means its target
+pub named_stands : (rows : List NameRow) (at : ℕ × List ℕ) (target : Target) (now : ℕ) → is_some (live_target rows at.0 at.1) ≡ false → live_target (rows ++ born_row at.0 at.1 target now ∷ []) at.0 at.1 ≡ Some target
+named_stands rows at target now free = grind (arith, nat_tests, free, find-append, false≢true, bytes_eq-Decides)
 
 -- the path leads to the target of its new name
 pub named_leads : (rows : List NameRow) (path : List (List ℕ)) (at : ℕ × List ℕ) (target : Target) (now : ℕ) → IsParent rows path at → is_some (live_target rows at.0 at.1) ≡ false → walk_now (rows ++ born_row at.0 at.1 target now ∷ []) path ≡ Ok target

@@ -26,7 +26,7 @@ pub use Rattle.ele_usage.specs.Sums.{Fits}
 pub use Rattle.ele_usage.specs.Adding.{IsWithin, nothing, plus}
 pub use Rattle.ele_usage.specs.declared.usage.Usage.{Usage}
 pub use Rattle.ele_model.specs.Bounds.{AreBounds, Bounds}
-pub use Rattle.ele_model.specs.Change.{AddMark, AddMember, AddName, Append, Change, DropGroup, DropIdle, EndDraft, EndFileName, EndName, SetDirectoryDefault, MakeDirectory, MakeFile, MakeGroup, MoveName, OpenHandle, SetFilePolicy, RemoveMark, RemoveMember, Revive, ShutHandle, StartDraft, Take, Time, TruncateDraft, WriteDraft, after_change, after_changes, changed_by, current_cells, ended_at, fitted_by, governed_by, is_idle, new_draft, next_version, numbered_on, set_policy, with_end, with_file, with_name, with_version, without_file, without_name}
+pub use Rattle.ele_model.specs.Change.{AddMark, AddMember, AddName, Append, Change, DropGroup, DropIdle, EndDraft, EndFileName, EndName, SetDirectoryDefault, MakeDirectory, MakeFile, MakeGroup, MoveName, OpenHandle, SetFilePolicy, RemoveMark, RemoveMember, Revive, ShutHandle, StartDraft, Take, Time, TruncateDraft, WriteDraft, after_change, after_changes, changed_by, current_cells, ended_at, fitted_by, governed_by, is_idle, new_draft, next_version, numbered_on, set_policy, version_cells, with_end, with_file, with_name, with_version, without_file, without_name}
 pub use Rattle.ele_model.specs.CleanKeepsKeys.{CleanKeepsKeys, TakesOneKey}
 pub use Rattle.ele_model.specs.Due.{is_due_at, kept_rows, ripe_of}
 pub use Rattle.ele_model.specs.RipeRows.{ripe_at}
@@ -48,17 +48,18 @@ pub use Rattle.ele_model.specs.Restorable.{last_target, may_return, name_cmp, na
 pub use Rattle.ele_model.specs.RipeMoments.{DueFromRipe, IsDueFromRipe, RipeIsAnswer, RipeIsAnswered}
 pub use Rattle.ele_model.specs.Run.{IsEvent, run_of}
 pub use Rattle.ele_model.specs.Scan.{due_key, first_due, in_order, key_cmp, key_of}
-pub use Rattle.ele_model.specs.Step.{clean_step, draft_read, plan, step}
+pub use Rattle.ele_model.specs.Step.{cells_by, clean_step, draft_read, file_standing, plan, row_then, save_new_plan, save_plan, step, version_then}
 pub use Rattle.ele_model.specs.Tagged.{had_closed, had_life, held_or_forgotten, last_number, lives_at, version_at, version_found, version_living, version_meant, version_numbered, walk_meant}
 pub use Rattle.ele_model.specs.Told.{stood_in}
 pub use Rattle.ele_model.specs.Usage.{bytes_in, is_file_of, is_of, places, places_from, usages}
 pub use Rattle.ele_model.specs.Walk.{comes_through, directory_in, directory_now, file_at, file_now, is_live_name, live_target, parent_now, stands_in, walk, walk_now}
+pub use Rattle.ele_model.specs.WalkAt.{walk_at}
 pub use Rattle.ele_model.specs.Parts.{Bounded, Counted, Current, Directories, Drafts, Ended, Files, Groups, Handles, HasParts, Holds, Homes, Law, Names, Now, Part, PolicyLaw, Readers, Tree, Versions}
 pub use Rattle.ele_model.specs.WellFormed.{AreApart, AreCounted, AreGroups, AreHeldRead, AreHoused, AreNames, AreOthers, ArePlaced, AreVersions, AreWrittenBy, HaveCurrent, HaveEnded, IsContent, IsDirectoryThere, IsDraft, IsFile, IsGroup, IsHandle, IsHeldRead, IsHoused, IsNameRow, IsOfLive, IsReadable, IsThere, IsVersion, IsWellFormed, has_directory, is_current, is_reached}
 pub use Rattle.ele_model.specs.Whole.{ChangesOnly, part, whole}
 pub use Rattle.ele_model.specs.World.{World, current_of, default_of, file_by, file_written, fresh_world, has_draft, is_directory, is_draft, is_draft_after, is_file, is_handle, is_held, is_live, is_live_name_of, is_open, is_target_file, is_version, is_version_after, is_writer, next_of, policy_of, reads_by, reads_version, root, writes}
 pub use Rattle.ele_model.specs.declared.event.Event.{Event}
-pub use Rattle.ele_model.specs.declared.event.Event.TheVariants.{CleanOne, Clock, Close, Create, Due, GroupAdd, GroupDrop, GroupMake, GroupRemove, GroupsAll, Link, MakeDir, Mark, OpenRead, OpenWrite, Read, Rename, Restorable, Revert, SetDefault, SetPolicy, Stat, Tick, Truncate, Undelete, Unlink, Unmark, UsageAll, Write}
+pub use Rattle.ele_model.specs.declared.event.Event.TheVariants.{Abandon, CleanOne, Clock, Close, Create, Due, GroupAdd, GroupDrop, GroupMake, GroupRemove, GroupsAll, Link, MakeDir, Mark, OpenRead, OpenWrite, Read, Rename, Restorable, Restore, Revert, Save, SetDefault, SetPolicy, Stat, Tick, Truncate, Undelete, Unlink, Unmark, UsageAll, Write}
 pub use Rattle.ele_model.specs.declared.event.Source.TheVariants.{Of, Tagged}
 pub use Rattle.ele_model.specs.declared.limits.Counts.{Counts}
 pub use Rattle.ele_model.specs.declared.refusal.Refusal.{Refusal}

@@ -1,5 +1,5 @@
 -- The changes of a world, and the rows after each; each change leaves a well-formed world.
-use Rattle.std.specs.Prelude.{ℕ, ◌+◌, ◌-◌, ◌==◌, ◌&&◌, not, true, false, Bool, List, [], ◌∷◌, ◌++◌, length, filter, Some, None, unwrap_or, if◌then◌else◌}
+use Rattle.std.specs.Prelude.{ℕ, ◌+◌, ◌-◌, ◌==◌, ◌&&◌, not, true, false, Bool, List, [], ◌∷◌, ◌++◌, length, filter, find, Some, None, unwrap_or, if◌then◌else◌}
 use Rattle.std.specs.List.{list_any}
 use Rattle.std.specs.Option.{option_map_or}
 use Rattle.ele_content.specs.declared.cell.Cell.{Cell}
@@ -28,7 +28,7 @@ pub data Change : Type 0 where
   AddName : (directory : ℕ) → (name : List ℕ) → (target : Target) → Change
   MoveName : (from : ℕ) → (old : List ℕ) → (to : ℕ) → (new : List ℕ) → (target : Target) → Change
   EndFileName : (directory : ℕ) → (name : List ℕ) → (file : ℕ) → Change
-  Revive : (directory : ℕ) → (name : List ℕ) → (file : ℕ) → Change
+  Revive : (directory : ℕ) → (name : List ℕ) → (file number : ℕ) → Change
   MakeFile : (directory : ℕ) → (name : List ℕ) → (id : ℕ) → (policy : Policy) → Change
   SetFilePolicy : (file : ℕ) → (policy : Policy) → Change
   Append : (file opened : ℕ) → (cells : List Cell) → Change
@@ -129,10 +129,13 @@ with_version w file opened cells = record w {
   made = record w.made { versions = w.made.versions + 1 };
 }
 
+-- the cells of the version. It is held whenever a handle reads it or a file is revived with it, so the case of no version never occurs
+abbrev pub version_cells : World → ℕ → ℕ → List Cell
+version_cells w file number = option_map_or (λ row. row.cells) (find (is_version file number) w.versions) []
+
 -- ---- drafts
 
--- the cells of the file's current version, which is held whenever a draft begins or a file is restored; so the case of no version never
--- occurs
+-- the cells of the file's current version, which is held whenever a draft begins; so the case of no version never occurs
 abbrev pub current_cells : World → ℕ → List Cell
 current_cells w file = option_map_or (λ row. row.cells) (current_of w file) []
 
@@ -165,8 +168,8 @@ after_change w (AddName directory name target) = with_name w directory name targ
 after_change w (MoveName from old to new target) = with_name (without_name w from old) to new target
 -- a file's live name dies now, and with the last one the current version ends
 after_change w (EndFileName directory name file) = ended_if_nameless (without_name w directory name) file
--- a file without a live name has one, and a new version with the cells of its last one
-after_change w (Revive directory name file) = with_version (with_name w directory name (File file)) file w.now (current_cells w file)
+-- a file without a live name has one, and a new version with the cells of the version of that number
+after_change w (Revive directory name file number) = with_version (with_name w directory name (File file)) file w.now (version_cells w file number)
 -- a new file, its name, and its first version, which is empty
 after_change w (MakeFile directory name id policy) = with_version (with_name (with_file w id policy) directory name (File id)) id w.now []
 after_change w (SetFilePolicy file policy) = record w { files = update_first (is_file file) (set_policy policy) w.files }

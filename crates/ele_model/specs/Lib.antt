@@ -4,6 +4,7 @@ pub mod Answers
 pub mod Bounds
 pub mod Change
 pub mod CleanKeepsKeys
+pub mod CountsOf
 pub mod Cover
 pub mod Due
 pub mod Fate

@@ -17,7 +17,7 @@ use Rattle.ele_model.specs.GroupRows.{has_group, has_member, is_marked_at}
 use Rattle.ele_model.specs.NameRows.{is_live_in, is_live_directory}
 use Rattle.ele_model.specs.Walk.{live_target}
 use Rattle.ele_model.specs.WellFormed.{IsThere, IsDirectoryThere, has_directory, is_reached, IsContent, AreWrittenBy, IsReadable, IsHeldRead}
-use Rattle.ele_model.specs.World.{World, next_of, is_version, is_live, current_of, is_open, has_draft, is_writer}
+use Rattle.ele_model.specs.World.{World, next_of, is_version, is_live, is_open, has_draft, is_writer}
 
 -- the limit of versions allows another one
 abbrev pub MayMakeVersion : World → Type 0
@@ -58,12 +58,12 @@ pub record MayMove (w : World) (from : ℕ) (old : List ℕ) (to : ℕ) (new : L
   pub stands : live_target w.names from old ≡ Some target
   pub named : MayName w to new
 
--- the file has no live name, and its last version is held
-pub record MayRevive (w : World) (directory : ℕ) (name : List ℕ) (file : ℕ) : Type 0 where
+-- the file has no live name, and its version of that number is held
+pub record MayRevive (w : World) (directory : ℕ) (name : List ℕ) (file number : ℕ) : Type 0 where
   pub named : MayName w directory name
   pub nameless : is_live w file ≡ false
-  pub last : VersionRow
-  pub held : current_of w file ≡ Some last
+  pub row : VersionRow
+  pub held : find (is_version file number) w.versions ≡ Some row
   pub room : MayMakeVersion w
 
 pub record MayMake (w : World) (directory : ℕ) (name : List ℕ) (id : ℕ) (policy : Policy) : Type 0 where
@@ -123,7 +123,7 @@ May w (EndName directory name) = MayEnd w directory name
 May w (AddName directory name target) = MayAdd w directory name target
 May w (MoveName from old to new target) = MayMove w from old to new target
 May w (EndFileName directory name file) = live_target w.names directory name ≡ Some (File file)
-May w (Revive directory name file) = MayRevive w directory name file
+May w (Revive directory name file number) = MayRevive w directory name file number
 May w (MakeFile directory name id policy) = MayMake w directory name id policy
 May w (SetFilePolicy file policy) = IsPolicy policy
 May w (Append file opened cells) = MayAppend w file opened cells

@@ -1,34 +1,38 @@
 -- The reply to each event, and the world after it: its checks in order, then its reply and its changes.
-use Rattle.std.specs.Prelude.{ℕ, ◌+◌, ◌==◌, nat_lt, nat_le, Bool, false, not, List, [], ◌∷◌, Option, Some, None, is_some, find, filter, map, length}
+use Rattle.std.specs.Prelude.{ℕ, ◌+◌, ◌-◌, ◌==◌, nat_lt, nat_le, Bool, false, not, List, [], ◌∷◌, Option, Some, None, is_some, Result, Ok, Err, find, filter, map, length, if◌then◌else◌}
 use Rattle.std.specs.List.{list_any}
 use Rattle.std.specs.Option.{option_map_or}
 use Rattle.ele_content.specs.declared.cell.Cell.{Cell}
-use Rattle.ele_content.specs.Content.{content_of, longest_content}
+use Rattle.ele_content.specs.Content.{content_of, longest_content, cells_after_write}
 use Rattle.ele_moment.specs.Last.{last_moment}
 use Rattle.ele_lists.specs.Lists.{remove_first}
 use Rattle.ele_path.specs.declared.tagged.Tag.TheVariants as tag
 use Rattle.ele_model.specs.declared.event.Event.{Event}
-use Rattle.ele_model.specs.declared.event.Event.TheVariants.{Clock, Tick, MakeDir, RemoveDir, Create, Link, Unlink, Rename, Undelete, OpenWrite, OpenRead, Write, Truncate, Close, Revert, SetPolicy, SetDefault, GroupMake, GroupDrop, GroupAdd, GroupRemove, Mark, Unmark, CleanOne, Read, Stat, Versions, List as ListNames, Restorable, Due, UsageAll, GroupsAll}
+use Rattle.ele_model.specs.declared.event.Event.TheVariants.{Clock, Tick, MakeDir, RemoveDir, Create, Link, Unlink, Rename, Undelete, OpenWrite, OpenRead, Write, Truncate, Close, Abandon, Save, Revert, Restore, SetPolicy, SetDefault, GroupMake, GroupDrop, GroupAdd, GroupRemove, Mark, Unmark, CleanOne, Read, Stat, Versions, List as ListNames, Restorable, Due, UsageAll, GroupsAll}
 use Rattle.ele_model.specs.declared.event.Source.TheVariants.{Tagged, Of}
-use Rattle.ele_model.specs.declared.refusal.Refusal.TheVariants.{ClockBack, ClockEnd, Exists, NotEmpty, IntoItself, TooBig, Drafting, NotRestorable, NoGroup, GroupExists, NoMark, MarkExists, NotPast, NotAhead, AlreadyMember, NotMember, Full}
+use Rattle.ele_model.specs.declared.refusal.Refusal.{Refusal}
+use Rattle.ele_model.specs.declared.refusal.Refusal.TheVariants.{ClockBack, ClockEnd, IsDirectory, Exists, NotEmpty, IntoItself, TooBig, Drafting, NotRestorable, NoGroup, GroupExists, NoMark, MarkExists, NotPast, NotAhead, AlreadyMember, NotMember, Full}
 use Rattle.ele_model.specs.declared.refusal.Which.TheVariants as which
 use Rattle.ele_model.specs.declared.reply.Reply.{Reply}
 use Rattle.ele_model.specs.declared.reply.Reply.TheVariants.{Done, Nothing, Now, Directory, File, Handle, Version, Closed, Removed, Bytes, Rows, NameList, RestoreList, DueList, UsageList, GroupList}
 use Rattle.ele_model.specs.declared.rows.Reads.{Reads}
 use Rattle.ele_model.specs.declared.rows.Reads.TheVariants as reads
+use Rattle.ele_model.specs.declared.rows.Target.{Target}
 use Rattle.ele_model.specs.declared.rows.Target.TheVariants as target
-use Rattle.ele_model.specs.Change.{Time, SetDirectoryDefault, MakeDirectory, EndName, AddName, MoveName, EndFileName, Revive, MakeFile, SetFilePolicy, Append, Take, StartDraft, WriteDraft, TruncateDraft, EndDraft, OpenHandle, ShutHandle, DropIdle, MakeGroup, DropGroup, AddMember, RemoveMember, AddMark, RemoveMark}
+use Rattle.ele_model.specs.declared.rows.VersionRow.{VersionRow}
+use Rattle.ele_model.specs.Change.{Time, SetDirectoryDefault, MakeDirectory, EndName, AddName, MoveName, EndFileName, Revive, MakeFile, SetFilePolicy, Append, Take, StartDraft, WriteDraft, TruncateDraft, EndDraft, OpenHandle, ShutHandle, DropIdle, MakeGroup, DropGroup, AddMember, RemoveMember, AddMark, RemoveMark, version_cells}
 use Rattle.ele_model.specs.FileView.{is_version_of}
 use Rattle.ele_model.specs.GroupRows.{has_group, has_member, is_marked_at}
 use Rattle.ele_model.specs.NameRows.{is_live_in}
 use Rattle.ele_model.specs.Plan.{Plan, Tell, Make, Unless, When, Need, IfFound, outcome}
 use Rattle.ele_model.specs.Restorable.{may_return, last_target, nameless, restorable}
 use Rattle.ele_model.specs.Scan.{scan, first_due}
-use Rattle.ele_model.specs.Tagged.{version_meant, version_at, walk_meant, walk_then, moment_of}
+use Rattle.ele_model.specs.Tagged.{had_life, version_meant, version_found, version_at, walk_meant, walk_then, moment_of}
 use Rattle.ele_model.specs.Told.{info_of, stat_of, listing}
 use Rattle.ele_model.specs.Usage.{usages}
 use Rattle.ele_model.specs.Walk.{live_target, walk_now, file_at, file_now, directory_in, directory_now, parent_now, stands_in}
-use Rattle.ele_model.specs.World.{World, default_of, next_of, has_draft, is_draft, is_version, is_handle, is_writer, file_by, reads_by}
+use Rattle.ele_model.specs.WalkAt.{walk_at}
+use Rattle.ele_model.specs.World.{World, default_of, next_of, is_live, has_draft, is_draft, is_handle, is_writer, file_by, reads_by}
 
 -- versions ever made, and open drafts
 abbrev pub versions_made : World → ℕ
@@ -42,10 +46,6 @@ has_other_writer w handle file = list_any (is_writer file) (remove_first (is_han
 abbrev pub draft_cells : World → ℕ → List Cell
 draft_cells w file = option_map_or (λ row. row.cells) (find (is_draft file) w.drafts) []
 
--- the cells of the version; a handle that reads it holds it, so the case of no version never occurs
-abbrev pub version_cells : World → ℕ → ℕ → List Cell
-version_cells w file number = option_map_or (λ row. row.cells) (find (is_version file number) w.versions) []
-
 -- the cells that the handle reads
 abbrev pub cells_read : World → Reads → List Cell
 cells_read w (reads.Draft file) = draft_cells w file
@@ -55,6 +55,73 @@ cells_read w (reads.Version file number) = version_cells w file number
 abbrev pub draft_read : Reads → Option ℕ
 draft_read (reads.Draft file) = Some file
 draft_read (reads.Version file number) = None
+
+-- ---- a save
+
+-- the cells of bytes that one version wrote
+abbrev pub cells_by : ℕ → List ℕ → List Cell
+cells_by writer bytes = cells_after_write writer 0 bytes []
+
+-- the file at the place of a name, if the name stands; a directory is none
+abbrev pub file_standing : Option Target → Result (Option ℕ) Refusal
+file_standing None = Ok None
+file_standing (Some (target.File file)) = Ok (Some file)
+file_standing (Some (target.Directory id)) = Err IsDirectory
+
+-- the file has a new version with these bytes
+abbrev pub save_plan : World → ℕ → List ℕ → Plan
+save_plan w file bytes =
+    let next = next_of w.files file in
+    Unless (has_draft w file) Drafting
+    (Unless (nat_le w.limits.versions (versions_made w)) (Full which.Versions)
+    (Make (Version next) (Append file w.now (cells_by next bytes) ∷ [])))
+
+-- a new file, with an empty first version and a second one with these bytes
+abbrev pub save_new_plan : World → ℕ × List ℕ → List ℕ → Plan
+save_new_plan w at bytes =
+    let id = w.made.files + 1 in
+    Unless (nat_le w.limits.files w.made.files) (Full which.Files)
+    (Unless (nat_le w.limits.names w.made.names) (Full which.Names)
+    (Unless (nat_le w.limits.versions (versions_made w + 1)) (Full which.Versions)
+    (Make (Version 2) (MakeFile at.0 at.1 id (default_of w.directories at.0) ∷ Append id w.now (cells_by 2 bytes) ∷ []))))
+
+-- ---- a restore
+
+-- the held version that the file which the path names now had at the moment
+abbrev pub own_then : World → Result ℕ Refusal → ℕ → Option VersionRow
+own_then w (Ok file) moment = find (had_life file moment) w.versions
+own_then w (Err refusal) moment = None
+
+-- the version of the file that the path named at the moment; if it named nothing then, that of the file that it names now
+abbrev pub row_then : World → List (List ℕ) → ℕ → Result Target Refusal → Result VersionRow Refusal
+row_then w path moment (Ok target) = version_found w (file_at (Ok target)) (tag.At moment)
+row_then w path moment (Err refusal) =
+    if nat_lt w.now moment then Err refusal
+    else option_map_or Ok (own_then w (file_now w.names path) moment) (Err refusal)
+
+abbrev pub version_then : World → List (List ℕ) → ℕ → Result VersionRow Refusal
+version_then w path moment = row_then w path moment (walk_at w.names moment w.now path)
+
+-- what a file that stands there becomes: its own older version, or the bytes of another file's
+abbrev pub restore_over : World → ℕ → VersionRow → Plan
+restore_over w file row =
+    When (row.file == file)
+    (Unless (has_draft w file) Drafting
+    (Unless (nat_le w.limits.versions (versions_made w)) (Full which.Versions)
+    (Make (Version (next_of w.files file)) (Append file w.now row.cells ∷ []))))
+    (save_plan w file (content_of row.cells))
+
+-- where no name stands: the version's file has the name again if it has no other one, else a new file is made with the bytes
+abbrev pub restore_name : World → ℕ × List ℕ → VersionRow → Plan
+restore_name w at row =
+    When (is_live w row.file)
+    (save_new_plan w at (content_of row.cells))
+    (Unless (has_draft w row.file) Drafting
+    (Unless (nat_le w.limits.names w.made.names) (Full which.Names)
+    (Unless (nat_le w.limits.versions (versions_made w)) (Full which.Versions)
+    (Make (Version (next_of w.files row.file)) (Revive at.0 at.1 row.file row.number ∷ [])))))
+
+-- ---- each event
 
 abbrev pub plan : World → Event → Plan
 -- the clock moves to a moment
@@ -119,7 +186,7 @@ plan w (Undelete path) =
     Unless (has_draft w file) Drafting
     (Unless (nat_le w.limits.names w.made.names) (Full which.Names)
     (Unless (nat_le w.limits.versions (versions_made w)) (Full which.Versions)
-    (Make (Version (next_of w.files file)) (Revive at.0 at.1 file ∷ [])))))))))
+    (Make (Version (next_of w.files file)) (Revive at.0 at.1 file (next_of w.files file - 1) ∷ [])))))))))
 -- a handle that writes the file's draft, which begins with the first one
 plan w (OpenWrite path) =
     let number = w.made.handles + 1 in
@@ -155,6 +222,17 @@ plan w (Close handle) =
     When draft.changed
     (Make (Closed (Some (next_of w.files file))) (ShutHandle handle ∷ EndDraft file ∷ Append file draft.opened draft.cells ∷ []))
     (Make (Closed None) (ShutHandle handle ∷ EndDraft file ∷ DropIdle file ∷ []))))))
+-- the handle of a writer ends; with the last one the draft is removed, and a file without live name, version and draft with it
+plan w (Abandon handle) =
+    Need (file_by w.handles handle) (λ file.
+    When (has_other_writer w handle file) (Make Done (ShutHandle handle ∷ []))
+    (Make Done (ShutHandle handle ∷ EndDraft file ∷ DropIdle file ∷ [])))
+-- the file has a next version with these bytes, or is made with them
+plan w (Save path bytes) =
+    Need (parent_now w.names path) (λ at.
+    Need (file_standing (live_target w.names at.0 at.1)) (λ standing.
+    Unless (nat_lt longest_content (length bytes)) TooBig
+    (IfFound standing (save_new_plan w at bytes) (λ file. save_plan w file bytes))))
 -- the file has a new version, with the cells of the version of that number
 plan w (Revert path number) =
     Need (file_now w.names path) (λ file.
@@ -162,6 +240,12 @@ plan w (Revert path number) =
     Unless (has_draft w file) Drafting
     (Unless (nat_le w.limits.versions (versions_made w)) (Full which.Versions)
     (Make (Version (next_of w.files file)) (Append file w.now row.cells ∷ [])))))
+-- what the path held at the moment becomes its newest version
+plan w (Restore path moment) =
+    Need (version_then w path moment) (λ row.
+    Need (parent_now w.names path) (λ at.
+    Need (file_standing (live_target w.names at.0 at.1)) (λ standing.
+    IfFound standing (restore_name w at row) (λ file. restore_over w file row))))
 -- the file has the policy from now on, for all its versions
 plan w (SetPolicy path policy) =
     Need (file_now w.names path) (λ file. Make Done (SetFilePolicy file policy ∷ []))

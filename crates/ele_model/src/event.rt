@@ -47,8 +47,17 @@ pub enum Event {
     Truncate(Handle, u64),
     /// Closes the handle; the last writer of a changed draft makes it a version.
     Close(Handle),
+    /// Ends the handle, which writes a draft, and makes no version. If no other handle writes the
+    /// draft, it is removed with all that was written to it.
+    Abandon(Handle),
+    /// Makes a new version of the file at the path with these bytes, without a handle. If nothing is
+    /// at the path, it makes the file, with an empty first version before that one.
+    Save(Path, ByteList),
     /// Makes a new version of the file at the path, with the content of the version of that number.
     Revert(Path, VersionNo),
+    /// Makes what the path held at the moment the newest version of the file at the path. If nothing
+    /// is at the path, the file has that name again, or a new one is made if it has another.
+    Restore(Path, Moment),
     /// Sets the policy of the file at the path.
     SetPolicy(Path, Boxed<Policy>),
     /// Sets the policy that later files and directories in the directory at the path get.

@@ -1,6 +1,6 @@
 //! Worlds that explain why a version is held, and which versions will be due. A contract sees one
 //! as its flat world.
-ghost use Rattle.std.specs.Prelude.{◌≡◌, IfOk};
+ghost use Rattle.std.specs.Prelude.{◌≡◌, ◌≢◌, [], IfOk, OnErr};
 
 use crate::fate::Fate;
 use crate::list::KeyList;
@@ -30,10 +30,12 @@ pub trait Explain: Step {
     /// Returns the keys of the versions that are due at the moment if only the clock moves until
     /// then, in order of removal.
     ///
-    /// `NoMemory` if memory is refused.
+    /// `NoMemory` if memory is refused. If there is no such version, it takes none.
     fn due_by(&self, moment: Moment) -> Result<KeyList, NoMemory>
-        ensures { IfOk result
-            (λ keys. keys ≡ scan (after_change (Self.world self.now) (Time moment))) };
+        ensures keys { IfOk result
+            (λ keys. keys ≡ scan (after_change (Self.world self.now) (Time moment))) }
+        ensures taken { OnErr result
+            (scan (after_change (Self.world self.now) (Time moment)) ≢ []) };
 
     /// Returns what becomes of the file's version of that number, and why. None if the version isn't held. It takes no memory.
     fn fate(&self, file: FileId, number: VersionNo) -> Option<Fate>

@@ -3,18 +3,17 @@ use Rattle.std.specs.Prelude.{ℕ, ◌==◌, ◌&&◌, nat_le, List, [], ◌∷�
 use Rattle.std.specs.Str.{bytes_eq}
 use Rattle.ele_commands.specs.declared.command.Command.TheVariants.{ListNames, Read, Unlink, Rename}
 use Rattle.ele_reasons.specs.declared.reasons.Hint.{Hint}
-use Rattle.ele_reasons.specs.declared.reasons.Hint.TheVariants.{Explaining, Case, Instead, Save, Leave, Place, Remark, Group, Open, Unknown}
+use Rattle.ele_reasons.specs.declared.reasons.Hint.TheVariants.{Explaining, Case, Instead, Leave, Place, Remark, Group, Open, Unknown}
 
 -- by its first byte: `#` (35), or a letter from `A` (65) to `Z` (90)
 abbrev pub letter_hint : List ℕ → Hint
 letter_hint [] = Unknown
 letter_hint (first ∷ rest) = if first == 35 then Remark else if nat_le 65 first && nat_le first 90 then Case else Unknown
 
--- a word that saves, ends or changes directory in another tool, or any other word
+-- a word that ends or changes directory in another tool, or any other word
 abbrev pub session_hint : List ℕ → Hint
 session_hint word =
-    if bytes_eq word (codes "save") then Save
-    else if bytes_eq word (codes "exit") then Leave
+    if bytes_eq word (codes "exit") then Leave
     else if bytes_eq word (codes "quit") then Leave
     else if bytes_eq word (codes "cd") then Place
     else letter_hint word

@@ -8,7 +8,7 @@ use Rattle.ele_script.specs.Value.{WordKind, NumberWord, HandleWord, VersionWord
 use Rattle.ele_reasons.specs.declared.reasons.Detail.{Detail}
 use Rattle.ele_reasons.specs.declared.reasons.Detail.TheVariants.{LeadingZero, TooLarge, Unit as UnitDetail, Date, NoSlash, Tag, Floor, Seconds, Pairs, Ages, Widths, Other}
 use Rattle.ele_reasons.specs.declared.reasons.Hint.{Hint}
-use Rattle.ele_reasons.specs.declared.reasons.Hint.TheVariants.{Explaining, Case, Instead, Save, Leave, Place, Remark, Group, Open, Unknown}
+use Rattle.ele_reasons.specs.declared.reasons.Hint.TheVariants.{Explaining, Case, Instead, Leave, Place, Remark, Group, Open, Unknown}
 use Rattle.ele_reasons.specs.declared.reasons.Reason.{Reason}
 use Rattle.ele_reasons.specs.declared.reasons.Reason.TheVariants.{TooLong, Cut, ByteOrderMark, Empty, Byte, NoCommand, Words, Word}
 
@@ -142,7 +142,6 @@ first_text command = first_of (command_words command)
 -- a hint that names no other command
 abbrev pub after_text : Hint → List ℕ
 after_text Explaining = codes "the command needs the option --explain"
-after_text Save = codes "there is no such command, but open write, write and close save a content"
 after_text Leave = codes "there is no such command: the end of the input ends the run"
 after_text Place = codes "there is no current directory: a path begins with a slash"
 after_text Remark = codes "remarks need the option --remarks"

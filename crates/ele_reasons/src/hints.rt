@@ -78,13 +78,11 @@ fn shell_hint(word: &[u8]) -> Hint
     }
 }
 
-// For a word that saves, ends or changes directory in another tool, or any other word.
+// For a word that ends or changes directory in another tool, or any other word.
 fn session_hint(word: &[u8]) -> Hint
     ensures { result ≡ session_hint word.now }
 {
-    if word == b"save".as_slice() {
-        Hint::Save
-    } else if word == b"exit".as_slice() {
+    if word == b"exit".as_slice() {
         Hint::Leave
     } else if word == b"quit".as_slice() {
         Hint::Leave

@@ -48,8 +48,6 @@ pub enum Hint {
     Case,
     /// The name that another tool has for this command.
     Instead(Command),
-    /// The name that another tool has for saving, which takes several commands here.
-    Save,
     /// A word that ends another tool.
     Leave,
     /// A word that changes the current directory of another tool.
@@ -253,7 +251,6 @@ fn after_hint(hint: Hint) -> &'static str
 {
     match hint {
         Hint::Explaining => "the command needs the option --explain",
-        Hint::Save => "there is no such command, but open write, write and close save a content",
         Hint::Leave => "there is no such command: the end of the input ends the run",
         Hint::Place => "there is no current directory: a path begins with a slash",
         Hint::Remark => "remarks need the option --remarks",

@@ -145,6 +145,26 @@ pub(crate) fn path_and_version(alloc: Global, words: &[&[u8]]) -> Result<(Path, 
     Ok((first, word::version(second)?))
 }
 
+pub(crate) fn path_and_bytes(alloc: Global, words: &[&[u8]]) -> Result<(Path, ByteList), LineFault>
+    ensures { Reads (PathWord ∷ BytesWord ∷ [])
+        (λ both. value.Path both.0 ∷ value.Bytes both.1 ∷ [])
+        (map (λ word. word.now) words.now) result }
+{
+    let (first, second) = two(words)?;
+    let first = word::path(alloc, first)?;
+    Ok((first, word::bytes(alloc, second)?))
+}
+
+pub(crate) fn path_and_moment(alloc: Global, words: &[&[u8]]) -> Result<(Path, Moment), LineFault>
+    ensures { Reads (PathWord ∷ MomentWord ∷ [])
+        (λ both. value.Path both.0 ∷ value.Moment both.1 ∷ [])
+        (map (λ word. word.now) words.now) result }
+{
+    let (first, second) = two(words)?;
+    let first = word::path(alloc, first)?;
+    Ok((first, word::moment(second)?))
+}
+
 pub(crate) fn path_and_policy(
     alloc: Global,
     words: &[&[u8]],

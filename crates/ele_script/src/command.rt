@@ -31,7 +31,7 @@ fn first_row(letter: u8) -> usize
         b'o' => Command::OpenWrite as usize,
         b'p' => Command::Pass as usize,
         b'r' => Command::Read as usize,
-        b's' => Command::Stat as usize,
+        b's' => Command::Save as usize,
         b't' => Command::Tick as usize,
         b'u' => Command::Unlink as usize,
         b'v' => Command::Versions as usize,

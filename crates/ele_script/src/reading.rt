@@ -11,8 +11,8 @@ ghost use Rattle.ele_script.specs.FirstFault.{IsFirstFault, IsEventFault, IsFaul
 
 use crate::arguments::{
     handle, handle_and_number, handle_number_and_bytes, moment, name, name_and_moment,
-    name_and_path, name_moment_and_end, nothing, number, path, path_and_policy, path_and_version,
-    path_at, source, tagged, two_paths,
+    name_and_path, name_moment_and_end, nothing, number, path, path_and_bytes, path_and_moment,
+    path_and_policy, path_and_version, path_at, source, tagged, two_paths,
 };
 use crate::command::read_command;
 use arrayvec::ArrayVec;
@@ -238,9 +238,20 @@ fn line_behind_any(alloc: Global, command: Command, words: &[&[u8]]) -> Result<L
             read.map(|(handle, size)| Line::Event(Event::Truncate(Handle(handle), size)))
         }
         Command::Close => handle(words).map(|handle| Line::Event(Event::Close(Handle(handle)))),
+        Command::Abandon => {
+            handle(words).map(|handle| Line::Event(Event::Abandon(Handle(handle))))
+        }
+        Command::Save => {
+            let read = path_and_bytes(alloc, words);
+            read.map(|(path, bytes)| Line::Event(Event::Save(path, bytes)))
+        }
         Command::Revert => {
             let read = path_and_version(alloc, words);
             read.map(|(path, number)| Line::Event(Event::Revert(path, VersionNo(number))))
+        }
+        Command::Restore => {
+            let read = path_and_moment(alloc, words);
+            read.map(|(path, moment)| Line::Event(Event::Restore(path, moment)))
         }
         Command::SetPolicy => {
             let read = path_and_policy(alloc, words);

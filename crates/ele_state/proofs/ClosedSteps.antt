@@ -1,6 +1,7 @@
 -- What closing a handle leaves, as the step of the world has it.
-use Rattle.ele_state.proofs.Words.{◌≡◌, ◌<◌, ◌^◌, ◌||◌, ℕ, List, Bool, true, false, cond, ◌∷◌, is_some, Option, Some, None, Ok, refl, ap, sym, ◌∙◌, arith, find, false≢true, AllByRecursion, option_map, option_map_or, nat_tests, IsSound, KeyChange, IsQueued, comes, new_keys, Rows, Key, has_key, cells_of_draft, is_live, may_grow, finishing, last_draft, leaving, left_by, opening_by, IsPast, Held, rows_of, with_rows, found_passes, all-found, all-weaker, Close, Closed, DraftRow, FileRow, Draft, EndDraft, ShutHandle, DropIdle, after_change, after_changes, has_other_writer, step, Counted, Drafts, Files, Handles, Versions, HasParts, dropped, all_keep, drafts-removed, World, file_by, file_written, has_draft, is_draft, next_of, policy_of, Policy, reads_by, is_moment, in_order_of, open_still, shut_others, has_row, []}
+use Rattle.ele_state.proofs.Words.{◌≡◌, ◌<◌, ◌^◌, ◌||◌, ℕ, List, Bool, true, false, cond, ◌∷◌, is_some, Option, Some, None, Ok, refl, ap, sym, ◌∙◌, arith, find, false≢true, AllByRecursion, option_map, option_map_or, nat_tests, IsSound, KeyChange, IsQueued, comes, new_keys, Rows, Key, has_key, cells_of_draft, is_live, may_grow, finishing, last_draft, leaving, left_by, opening_by, IsPast, Held, rows_of, with_rows, found_passes, all-found, all-weaker, Abandon, Close, Closed, Done, DraftRow, FileRow, Draft, EndDraft, ShutHandle, DropIdle, after_change, after_changes, has_other_writer, step, Counted, Drafts, Files, Handles, Versions, HasParts, dropped, all_keep, drafts-removed, World, file_by, file_written, has_draft, is_draft, next_of, policy_of, Policy, reads_by, is_moment, in_order_of, open_still, shut_others, has_row, []}
 use Rattle.ele_state.proofs.Appended.{appended_queue}
+use Rattle.ele_lists.proofs.Cuts.{any-found as first_passing}
 use Rattle.ele_model.proofs.OtherFiles.{other_drafts}
 use Rattle.ele_model.specs.declared.rows.HandleRow.{HandleRow}
 use Rattle.ele_sessions.specs.Found.{StandsAt}
@@ -71,6 +72,10 @@ module _ (w : World) (handle file : ℕ) (reads : reads_by w.handles handle ≡ 
 
   pub left_step : HasParts w → opening_by (rows_of w) handle ≡ None → step w (Close handle) ≡ (Closed None, after_change (after_changes w (leaving handle file goes)) (DropIdle file))
   left_step formed opens = grind (arith, nat_tests, opens, writes_file w.handles handle file reads, stays formed)
+
+  -- a handle that is abandoned leaves the same, whether the draft was changed or not
+  pub abandoned_step : HasParts w → step w (Abandon handle) ≡ (Done, after_change (after_changes w (leaving handle file goes)) (DropIdle file))
+  abandoned_step formed = grind (arith, nat_tests, drafted_by formed, first_passing (is_draft file) w.drafts, writes_file w.handles handle file reads, stays formed)
 
   -- and a well-formed world stays so, before the drop too
   pub left_keeps : HasParts w → HasParts (after_changes w (leaving handle file goes))

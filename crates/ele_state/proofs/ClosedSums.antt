@@ -1,12 +1,13 @@
 -- What the book of usage has, once a handle is closed.
-use Rattle.ele_state.proofs.Words.{None, only_at, left_by, opening_by, with_rows, Closed, Close, DropIdle, IsBooked, after_change, step, nat_tests, ◌≡◌, ℕ, ◌+◌, ◌-◌, ◌≤◌, ◌<◌, ◌^◌, cond, List, length, Ok, refl, sym, arith, content_of, longest_content, world_of, IsSound, IsRoomy, held_world, blocks_of, one_version, IsOwed, Rows, Held, Source, source_cells, insert_before, update_first, DraftRow, all-found, length-update_first, length-insert_before, Kind, Book, sums_of, nothing, plus, Fits, VersionRow, ended_at, with_end, is_file_of, bytes_in, Drafts, Versions, ChangesOnly, Draft, World, reads_by, is_version, is_version_after, next_of, versions-finished, kinds-numbered, files-numbered, sum_by-insert_before, sum_by-update_same, Bool, Usage, usage_of, subst, ap, ◌∙◌, IsQueued, HasParts}
+use Rattle.ele_state.proofs.Words.{None, only_at, left_by, opening_by, with_rows, Abandon, Closed, Close, Done, DropIdle, IsBooked, after_change, step, nat_tests, ◌≡◌, ℕ, ◌+◌, ◌-◌, ◌≤◌, ◌<◌, ◌^◌, cond, List, length, Ok, refl, sym, arith, content_of, longest_content, world_of, IsSound, IsRoomy, held_world, blocks_of, one_version, IsOwed, Rows, Held, IsSource, Origin, cells_of_draft, cells_of_version, source_cells, insert_before, update_first, DraftRow, all-found, length-update_first, length-insert_before, Kind, Book, sums_of, nothing, plus, Fits, VersionRow, ended_at, with_end, is_file_of, bytes_in, Drafts, Versions, ChangesOnly, Draft, World, reads_by, is_version, is_version_after, next_of, versions-finished, kinds-numbered, files-numbered, sum_by-insert_before, sum_by-update_same, Bool, Usage, usage_of, subst, ap, ◌∙◌, IsQueued, HasParts}
 use Rattle.ele_state.proofs.Booked.{few_blocks, owed, drafts_owed, and_nothing, size, bytes_are}
-use Rattle.ele_state.proofs.ClosedSteps.{leaves, left_keeps, left_queue, left_step, left_world}
+use Rattle.ele_state.proofs.Saved.{content_by}
+use Rattle.ele_state.proofs.ClosedSteps.{abandoned_step, leaves, left_keeps, left_queue, left_step, left_world}
 use Rattle.ele_model.proofs.OtherFiles.{other_drafts}
 use Rattle.ele_model.specs.Change.{numbered_on}
 use Rattle.ele_model.specs.World.{is_file}
 use Rattle.ele_model.specs.declared.rows.HandleRow.{HandleRow}
-use Rattle.ele_state.specs.declared.append.Source.TheVariants as source
+use Rattle.ele_state.specs.Source as source
 
 -- the book has the version of the file's kind
 abbrev pub HasAdded : Held → ℕ → Book → Book → ℕ → Type 0
@@ -56,11 +57,21 @@ module _ (rows : Rows) (handle file : ℕ) (sound : IsSound rows) (reads : reads
   pub left_answer : opening_by rows.files handle ≡ None → (Closed None, after_change (with_rows (world_of rows) (left_by rows.files handle)) (DropIdle file)) ≡ step (world_of rows) (Close handle)
   left_answer opens = ap (λ (v : World). (Closed None, after_change v (DropIdle file))) (left_world (world_of rows) handle file reads) ∙ sym (left_step (world_of rows) handle file reads sound.formed opens)
 
+  pub abandoned_answer : (Done, after_change (with_rows (world_of rows) (left_by rows.files handle)) (DropIdle file)) ≡ step (world_of rows) (Abandon handle)
+  abandoned_answer = ap (λ (v : World). (Done, after_change v (DropIdle file))) (left_world (world_of rows) handle file reads) ∙ sym (abandoned_step (world_of rows) handle file reads sound.formed)
+
 -- ---- bounds
 
-pub source_short : (rows : Rows) → IsSound rows → (file : ℕ) (source : Source) → length (content_of (source_cells rows.files file source)) ≤ longest_content
-source_short rows sound file (source.Draft handle opened) = grind (arith, nat_tests, all-found, sound.formed.holds Drafts)
-source_short rows sound file (source.Version number) = grind (arith, nat_tests, all-found, sound.formed.holds Versions)
+pub draft_short : (rows : Rows) → IsSound rows → (file : ℕ) → length (content_of (cells_of_draft rows.files file)) ≤ longest_content
+draft_short rows sound file = grind (arith, nat_tests, all-found, sound.formed.holds Drafts)
+
+pub version_short : (rows : Rows) → IsSound rows → (file number : ℕ) → length (content_of (cells_of_version rows.files file number)) ≤ longest_content
+version_short rows sound file number = grind (arith, nat_tests, all-found, sound.formed.holds Versions)
+
+pub source_short : (rows : Rows) → IsSound rows → (file : ℕ) (source : Origin) → IsSource rows.files file source → length (content_of (source_cells rows.files file source)) ≤ longest_content
+source_short rows sound file (source.Draft handle opened) is = draft_short rows sound file
+source_short rows sound file (source.Version number) is = version_short rows sound file number
+source_short rows sound file (source.Bytes bytes) is = rw content_by is.short
 
 pub version_fits : (rows : Rows) → IsBooked rows.files rows.book → IsRoomy rows.made.versions rows.book → (bytes before : ℕ) → bytes ≤ longest_content → before ≡ blocks_of rows.files → before < 2 ^ 64 → (k : Kind) → Fits (plus (sums_of rows.book k) (one_version bytes))
 version_fits rows booked roomy bytes before short is bound k = grind (arith, nat_tests, roomy.sums k, few_blocks rows booked k)

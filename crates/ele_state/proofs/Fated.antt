@@ -1,5 +1,5 @@
 -- What becomes of a held version: by the groups that have its file, and by what its policy alone makes of it.
-use Rattle.ele_state.proofs.Words.{IsLawful, Case, Rule, case_moment, case_of, moment_is, ripe_case, rule_in, rule_of, is_live, newer_held, ◌≡◌, ℕ, ◌≤◌, ◌&&◌, Bool, true, false, List, [], ◌∷◌, Option, Some, None, IfSome, IsSome, refl, ap, sym, subst, ◌∙◌, arith, nat_tests, nat_le, find, slice_get, take, option_map, option_map_or, AllByRecursion, AllLater, all-found, any-found, found_passes, bytes_eq-Decides, IsSound, IsInfoOf, Rows, world_of, Held, Policy, GroupRow, VersionInfo, VersionRow, Versions, World, Cover, MarkRow, cover_of, ripe_past, option_and_then, file_view, is_open, is_version, policy_of, info_of, in_order_of, ripe_at_is}
+use Rattle.ele_state.proofs.Words.{IsLawful, Case, Rule, case_moment, moment_is, ripe_case, rule_in, rule_of, is_live, ◌≡◌, ℕ, ◌≤◌, ◌&&◌, Bool, true, false, List, [], ◌∷◌, Option, Some, None, IfSome, IsSome, refl, ap, sym, subst, ◌∙◌, arith, nat_tests, nat_le, find, slice_get, take, option_map, option_map_or, AllByRecursion, AllLater, all-found, any-found, found_passes, bytes_eq-Decides, IsSound, IsInfoOf, Rows, world_of, Held, Policy, GroupRow, VersionInfo, VersionRow, Versions, World, Cover, MarkRow, cover_of, ripe_past, option_and_then, file_view, is_open, is_version, policy_of, info_of, in_order_of, ripe_at_is}
 use Rattle.ele_state.proofs.Changes.{none_any}
 use Rattle.ele_lists.proofs.Taken.{all-at, find-first_at}
 use Rattle.ele_model.proofs.Basics.{zero, suc}

@@ -14,6 +14,9 @@ pub mod Marked
 pub mod Made
 pub mod Fresh
 pub mod Removed
+pub mod Saved
+pub mod Unmade
+pub mod MadeSaved
 pub mod ClosedSteps
 pub mod ClosedSums
 pub mod DroppedFiles

@@ -22,8 +22,8 @@ pub unnamed : (w : World) (file : ℕ) → HasParts w → next_of w.files file �
 unnamed w file k none = filter-all (λ row. not (is_target_file file row.target)) w.names (all-weaker (IsNameRow w.files w.now) (λ row. not (is_target_file file row.target) ≡ true) w.names (λ row h. other_target w.files file row.target none h.there) (k.holds Names).each)
 
 -- nor was one of the new file, so its name alone goes
-pub name_goes : (rows : Rows) (directory : ℕ) (name : List ℕ) → IsSound rows → filter (λ row. not (is_target_file (rows.made.files + 1) row.target)) (rows.names ++ born_row directory name (File (rows.made.files + 1)) rows.moment ∷ []) ≡ rows.names
-name_goes rows directory name sound = grind (arith, nat_tests, filter-append, append-nil, unnamed (world_of rows) (rows.made.files + 1) sound.formed, next_of-given, sound.formed.holds Files)
+pub name_goes : (w : World) (directory : ℕ) (name : List ℕ) → HasParts w → filter (λ row. not (is_target_file (w.made.files + 1) row.target)) (w.names ++ born_row directory name (File (w.made.files + 1)) w.now ∷ []) ≡ w.names
+name_goes w directory name formed = grind (arith, nat_tests, filter-append, append-nil, unnamed w (w.made.files + 1) formed, next_of-given, formed.holds Files)
 
 -- ---- names that move, or go
 

@@ -35,6 +35,13 @@ pub first_is : (rows : Rows) (first : Option Key) → IsSound rows
 unfolding scan
 first_is rows first sound is = sym (is rows.moment (filter_map (due_key (world_of rows)) rows.files.versions) (due_keys rows sound))
 
+-- and that of the scan at any other moment, if it is ripe by then
+pub first_at : (rows : Rows) (moment : ℕ) (first : Option Key) → IsSound rows → moment ≤ last_moment
+    → ((at : ℕ) (ripe : List Key) → ((k : Key) → has_key k ripe ≡ (is_ripe_by at k && has_key k rows.queue)) → slice_get (in_order ripe) 0 ≡ if_ripe at first)
+    → if_ripe moment first ≡ first_due (after_change (world_of rows) (Time moment))
+unfolding scan
+first_at rows moment first sound fits is = sym (is moment (filter_map (due_key (after_change (world_of rows) (Time moment))) rows.files.versions) (keys_by rows moment sound fits))
+
 -- a version is due if its key is ripe and in the queue
 pub due_by_key : (rows : Rows) (file number : ℕ) → IsSound rows → is_due (world_of rows) file number ≡ option_map_or (λ m. nat_le m rows.moment && has_key (record { ripe = m; file = file; number = number }) rows.queue) (ripe_at (world_of rows) file number) false
 due_by_key rows file number sound = grind (arith, nat_tests, is_due_is (world_of rows) file number sound.formed)

@@ -1,4 +1,4 @@
--- A file that has a name again, and a version like its last one.
+-- A file that has a name again, and a version like a held one.
 use Rattle.ele_state.proofs.Words.{File, IsLawful, IsReady, Key, MayGrow, Policy, and-false, Cell, cond, cover_of, false≢true, Rule, case_moment, case_of, few_enough, moment_is, ripe_past, rule_in, rule_of, former_moment, has_key, in_order_of, freed_moment, is_freed, is_live_name_of, is_moment, comes, coming, list_any-append, moments_stay, nat_le, newer_held, not, option_and_then, or-false, policy_is, policy_of, ripe_at, unread_under, unwrap_or, with_newer, with_version, ◌&&◌, ◌==◌, ◌||◌, ◌+◌, ◌∙◌, ap, subst, sym, after_change, after_changes, Append, Revive, IsHome, IsQueued, Shown, live_target, shown_of, ◌≡◌, ℕ, ◌-◌, ◌<◌, ◌≤◌, ◌++◌, Bool, true, false, List, ◌∷◌, Option, None, Some, is_some, refl, arith, find, list_any, option_map, option_map_or, nat_tests, world_of, IsSound, MayAppend, MayRevive, Rows, info_of, cells_of_version, all-found, found_passes, born_row, is_draft, is_version, may_grow, Versions, World, is_held, is_live, next_of, version_cells, versions_made, FileRow, VersionInfo, VersionRow, is_entry, is_open, gained_moment, []}
 use Rattle.ele_state.proofs.Appended.{appended_keys, none_there}
 use Rattle.ele_state.proofs.Changes.{any_is}
@@ -6,7 +6,7 @@ use Rattle.ele_state.proofs.Freed.{freed_is, just_more, none_freed, none_more, o
 use Rattle.ele_state.proofs.Governed.{asked}
 use Rattle.ele_state.proofs.Grown.{ready}
 use Rattle.ele_state.proofs.SoundAfter.{named as may_named}
-use Rattle.ele_state.specs.declared.append.Source.TheVariants.{Version}
+use Rattle.ele_state.specs.Source.{Version}
 use Rattle.ele_lists.proofs.Cuts.{any-found as first_passing}
 use Rattle.ele_model.proofs.Basics.{suc, zero}
 use Rattle.ele_model.proofs.Views.{policies_of}
@@ -43,14 +43,14 @@ module _ (rows : Rows) (file number : ℕ) (sound : IsSound rows) (held : is_hel
       let is = first_passing (is_version file number) rows.files.versions held in
       rw is.1 (grind (arith, nat_tests, held_there, all-found, found_passes, sound.formed.holds Versions, written_more is.0.number (next_of rows.files.files file) is.0.cells))
 
--- ---- a file without a live name gets its last version again
+-- ---- a file without a live name gets a held version again
 
-module _ (rows : Rows) (directory : ℕ) (name : List ℕ) (file : ℕ) (sound : IsSound rows) (may : MayRevive (world_of rows) directory name file) where
+module _ (rows : Rows) (directory : ℕ) (name : List ℕ) (file number : ℕ) (sound : IsSound rows) (may : MayRevive (world_of rows) directory name file number) where
   abbrev w : World
   w = world_of rows
 
-  pub last_held : is_held w file (next_of w.files file - 1) ≡ true
-  last_held = told_held w file (next_of w.files file - 1) (info_of may.last) (ap (option_map info_of) may.held)
+  its_held : is_held w file number ≡ true
+  its_held = told_held w file number (info_of may.row) (ap (option_map info_of) may.held)
 
   -- the name is there, and not yet counted
   abbrev named : Rows
@@ -60,7 +60,7 @@ module _ (rows : Rows) (directory : ℕ) (name : List ℕ) (file : ℕ) (sound :
   u = world_of named
 
   named_grows : MayGrow u file
-  named_grows = let g = may_grow w file sound.formed (held_there rows file (next_of w.files file - 1) sound last_held) in record { there = g.there; versions = g.versions; readers = g.readers; policies = g.policies }
+  named_grows = let g = may_grow w file sound.formed (held_there rows file number sound its_held) in record { there = g.there; versions = g.versions; readers = g.readers; policies = g.policies }
 
   -- ---- the keys
 
@@ -176,13 +176,13 @@ module _ (rows : Rows) (directory : ℕ) (name : List ℕ) (file : ℕ) (sound :
 
 -- ---- with the name
 
-pub revives : (rows : Rows) (shown : Shown) (is : shown_of rows ≡ shown) (directory : ℕ) (name : List ℕ) (file : ℕ) → IsHome shown.world directory → is_some (live_target shown.world.names directory name) ≡ false → shown.world.made.names < shown.world.limits.names → versions_made shown.world < shown.world.limits.versions → is_live shown.world file ≡ false
-    → is_held shown.world file (next_of shown.world.files file - 1) ≡ true → MayRevive (world_of rows) directory name file
-revives rows shown is directory name file home free names versions dead held =
-    let may : MayRevive shown.world directory name file = grind (arith, nat_tests, first_passing, may_named shown.world directory name home free names) in
-    subst (λ (s : Shown). MayRevive s.world directory name file) (sym is) may
+pub revives : (rows : Rows) (shown : Shown) (is : shown_of rows ≡ shown) (directory : ℕ) (name : List ℕ) (file number : ℕ) → IsHome shown.world directory → is_some (live_target shown.world.names directory name) ≡ false → shown.world.made.names < shown.world.limits.names → versions_made shown.world < shown.world.limits.versions → is_live shown.world file ≡ false
+    → is_held shown.world file number ≡ true → MayRevive (world_of rows) directory name file number
+revives rows shown is directory name file number home free names versions dead held =
+    let may : MayRevive shown.world directory name file number = grind (arith, nat_tests, first_passing, may_named shown.world directory name home free names) in
+    subst (λ (s : Shown). MayRevive s.world directory name file number) (sym is) may
 
 -- once it is counted the world is that after the change
-pub revived_world : (rows : Rows) (directory : ℕ) (name : List ℕ) (file number : ℕ) (now : World) → number ≡ next_of rows.files.files file - 1
-    → now ≡ after_changes (record (world_of rows) { names = rows.names ++ born_row directory name (File file) rows.moment ∷ [] }) (Append file rows.moment (cells_of_version rows.files file number) ∷ []) → record now { made = record now.made { names = now.made.names + 1 } } ≡ after_change (world_of rows) (Revive directory name file)
-revived_world rows directory name file number now last is = ap (λ (v : World). record v { made = record v.made { names = v.made.names + 1 } }) is ∙ rw last refl
+pub revived_world : (rows : Rows) (directory : ℕ) (name : List ℕ) (file number : ℕ) (now : World) → now ≡ after_changes (record (world_of rows) { names = rows.names ++ born_row directory name (File file) rows.moment ∷ [] }) (Append file rows.moment (cells_of_version rows.files file number) ∷ [])
+    → record now { made = record now.made { names = now.made.names + 1 } } ≡ after_change (world_of rows) (Revive directory name file number)
+revived_world rows directory name file number now is = ap (λ (v : World). record v { made = record v.made { names = v.made.names + 1 } }) is

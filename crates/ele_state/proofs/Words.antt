@@ -3,8 +3,7 @@ pub use Rattle.ele_content.specs.declared.cell.Cell.{Cell}
 pub use Rattle.ele_state.specs.Home.{IsHome, IsPresent}
 pub use Rattle.ele_state.specs.Inside.{IsSettled, IsSound, IsTracked, shown_of, world_of}
 pub use Rattle.ele_state.specs.Shown.{Shown}
-pub use Rattle.ele_state.specs.Source.{IsReady, IsRoomy, IsSource, appending, coming, source_cells}
-pub use Rattle.ele_state.specs.declared.append.Source.{Source}
+pub use Rattle.ele_state.specs.Source.{IsReady, IsRoomy, IsSource, Origin, appending, coming, origin, source_cells}
 pub use Rattle.ele_state.specs.Queued.{AreChanges, IsQueued, IsRekeyed, IsInfoOf, few_enough, former_moment, freed_moment, gained_moment, is_alone, is_entry, is_freed, is_one, is_own, new_keys, HasLeaving, change_of, comes, cover_after, files_of, goes, if_changed, moments_by, moments_of, unread_under}
 pub use Rattle.ele_state.specs.Tracked.{IsBooked, IsFew, IsOwed, IsOwedBy, blocks_of, held_world, of_file, one_version, only_blocks}
 pub use Rattle.ele_state.specs.declared.keys.KeyChange.{KeyChange}
@@ -51,16 +50,17 @@ pub use Rattle.ele_policy.specs.declared.rule.Case.{Case}
 pub use Rattle.ele_policy.specs.declared.rule.Rule.{Rule}
 pub use Rattle.ele_model.specs.Neighbours.{case_in, case_moment, newer_held, rule_of, with_newer}
 pub use Rattle.ele_model.specs.May.{May, MayAppend, MayHaveMore, MayName, MayRevive}
+pub use Rattle.ele_model.specs.Change.{version_cells}
 pub use Rattle.ele_model.specs.GroupRows.{has_member}
 pub use Rattle.ele_model.specs.NoIdleStays.{HasNoIdle}
-pub use Rattle.ele_model.specs.Step.{has_other_writer, version_cells, versions_made}
+pub use Rattle.ele_model.specs.Step.{cells_by, has_other_writer, versions_made}
 pub use Rattle.ele_model.specs.Told.{info_of}
 pub use Rattle.ele_model.specs.Usage.{usage_of}
 pub use Rattle.ele_model.specs.declared.event.Event.{Event}
-pub use Rattle.ele_model.specs.declared.event.Event.TheVariants.{CleanOne, Close}
+pub use Rattle.ele_model.specs.declared.event.Event.TheVariants.{Abandon, CleanOne, Close}
 pub use Rattle.ele_model.specs.declared.refusal.Refusal.{Refusal}
 pub use Rattle.ele_model.specs.declared.reply.Reply.{Reply}
-pub use Rattle.ele_model.specs.declared.reply.Reply.TheVariants.{Closed}
+pub use Rattle.ele_model.specs.declared.reply.Reply.TheVariants.{Closed, Done}
 pub use Rattle.ele_model.specs.declared.rows.DraftRow.{DraftRow}
 pub use Rattle.ele_model.specs.declared.rows.FileRow.{FileRow}
 pub use Rattle.ele_model.specs.declared.rows.GroupRow.{GroupRow}

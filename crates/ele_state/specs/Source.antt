@@ -14,26 +14,41 @@ use Rattle.ele_state.specs.Inside.{world_of}
 use Rattle.ele_state.specs.Queued.{new_keys}
 use Rattle.ele_state.specs.Tracked.{IsFew}
 use Rattle.ele_state.specs.declared.append.Source.{Source}
+use Rattle.ele_state.specs.declared.append.Source.TheVariants as source
 use Rattle.ele_state.specs.declared.keys.KeyChange.{KeyChange}
-use Rattle.ele_state.specs.declared.append.Source.TheVariants.{Draft, Version}
 use Rattle.ele_state.specs.declared.rows.Rows.{Rows}
 use Rattle.ele_usage.specs.Book.{Book, sums_of}
 use Rattle.ele_model.specs.Change.{Change, Append}
+use Rattle.ele_model.specs.Step.{cells_by}
 use Rattle.ele_model.specs.WellFormed.{ArePlaced}
-use Rattle.ele_model.specs.World.{is_draft, is_live, is_version, reads_by}
+use Rattle.ele_model.specs.World.{is_draft, is_live, is_version, next_of, reads_by}
 use Rattle.ele_model.specs.declared.rows.Reads.TheVariants as reads
 
+-- a draft with its last handle and its opening, a held version by its number, or bytes
+pub data Origin : Type 0 where
+  Draft : FoundHandle → ℕ → Origin
+  Version : ℕ → Origin
+  Bytes : List ℕ → Origin
+
+-- that of the source, if these bytes are passed with it
+abbrev pub origin : Source → List ℕ → Origin
+origin (source.Draft handle opened) bytes = Draft handle opened
+origin (source.Version number) bytes = Version number
+origin source.Bytes bytes = Bytes bytes
+
 -- the changes by which the file gets the version
-abbrev pub appending : Held → ℕ → ℕ → Source → List Change
+abbrev pub appending : Held → ℕ → ℕ → Origin → List Change
 appending h now file (Draft handle opened) = finishing h handle.row.number file opened
 appending h now file (Version number) = Append file now (cells_of_version h file number) ∷ []
+appending h now file (Bytes bytes) = Append file now (cells_by (next_of h.files file) bytes) ∷ []
 
 -- the cells of the new version
-abbrev pub source_cells : Held → ℕ → Source → List Cell
+abbrev pub source_cells : Held → ℕ → Origin → List Cell
 source_cells h file (Draft handle opened) = cells_of_draft h file
 source_cells h file (Version number) = cells_of_version h file number
+source_cells h file (Bytes bytes) = cells_by (next_of h.files file) bytes
 
--- the last handle of a changed draft, or a held version of a file without a draft
+-- the last handle of a changed draft, or of a file without a draft a held version or bytes that aren't too many
 pub record IsLast (h : Held) (file : ℕ) (handle : FoundHandle) (opened : ℕ) : Type 0 where
   pub stands : StandsAt h.handles handle
   pub reads : reads_by h.handles handle.row.number ≡ Ok (reads.Draft file)
@@ -43,12 +58,18 @@ pub record IsHeldAlone (h : Held) (file number : ℕ) : Type 0 where
   pub held : IsSome (find (is_version file number) h.versions)
   pub undrafted : list_any (is_draft file) h.drafts ≡ false
 
-abbrev pub IsSource : Held → ℕ → Source → Type 0
+pub record IsGiven (h : Held) (file : ℕ) (bytes : List ℕ) : Type 0 where
+  pub there : 0 < next_of h.files file
+  pub undrafted : list_any (is_draft file) h.drafts ≡ false
+  pub short : length bytes ≤ longest_content
+
+abbrev pub IsSource : Held → ℕ → Origin → Type 0
 IsSource h file (Draft handle opened) = IsLast h file handle opened
 IsSource h file (Version number) = IsHeldAlone h file number
+IsSource h file (Bytes bytes) = IsGiven h file bytes
 
 -- the files can make the version, and the sums can take it
-pub record IsReady (h : Held) (now file : ℕ) (source : Source) : Type 0 where
+pub record IsReady (h : Held) (now file : ℕ) (source : Origin) : Type 0 where
   pub is : IsSource h file source
   pub few : length h.versions + length h.drafts ≤ 2 ^ 50
   pub numbered : AllByRecursion (λ row. row.next < 2 ^ 62) h.files

@@ -31,6 +31,10 @@ only_blocks n = record { files = 0; versions = 0; bytes = 0; blocks = n }
 abbrev pub one_version : ℕ → Usage
 one_version bytes = record { files = 0; versions = 1; bytes = bytes; blocks = 0 }
 
+-- a file with its first version, which is empty
+abbrev pub new_file : Usage
+new_file = record { files = 1; versions = 1; bytes = 0; blocks = 0 }
+
 -- what a kind may use, without its blocks
 pub record IsFew (u : Usage) : Type 0 where
   pub files : u.files ≤ 100000

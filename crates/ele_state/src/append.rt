@@ -17,7 +17,7 @@ ghost use Rattle.ele_model.specs.World.{next_of};
 ghost use Rattle.ele_policy.specs.RipeCase.{case_of};
 ghost use Rattle.ele_state.specs.Inside.{world_of};
 ghost use Rattle.ele_state.specs.Queued.{comes, few_enough, former_key, former_moment, own_key};
-ghost use Rattle.ele_state.specs.Source.{IsReady, IsRoomy, appending, coming, source_cells};
+ghost use Rattle.ele_state.specs.Source.{IsReady, IsRoomy, appending, coming, origin, source_cells};
 ghost use Rattle.ele_state.specs.Tracked.{IsBooked};
 
 use crate::book::{blocks, charge_blocks, one_version};
@@ -30,12 +30,13 @@ use ele_model::{FileId, Moment, NoMemory, VersionInfo, VersionNo};
 use ele_policy::{Case, Rule};
 use ele_sessions::FoundHandle;
 
-// The source of a file's next version: the draft that was opened then, with its last handle, or the
-// held version of that number.
+// The source of a file's next version: the draft that was opened then, with its last handle, the
+// held version of that number, or the bytes that are passed with it.
 #[derive(Clone, Copy)]
 pub enum Source {
     Draft(FoundHandle, Moment),
     Version(VersionNo),
+    Bytes,
 }
 
 // The head of the file, which exists.
@@ -157,24 +158,29 @@ fn own_key(rows: &Rows, file: FileId, head: &FileHead, rule: &Rule, ends: bool) 
 }
 
 // Adds the file's next version to the files, and returns its number and its length.
+#[tactic(auto, using(crate::proofs::Saved::length_by))]
 fn put_version(
     files: &mut Files,
     file: FileId,
     source: Source,
+    bytes: &[u8],
     now: Moment,
     is_live: bool,
 ) -> Result<NewVersion, NoMemory>
-    requires { IsReady files.old now file source }
+    requires { IsReady files.old now file (origin source bytes.now) }
     ensures number { IfOk result (λ made. made.number ≡ next_of files.old.files file) }
     ensures length { IfOk result
-        (λ made. made.length ≡ length (content_of (source_cells files.old file source))) }
+        (λ made. made.length
+        ≡ length (content_of (source_cells files.old file (origin source bytes.now)))) }
     ensures ok { OnOk result
-        (Became files.old now file is_live (appending files.old now file source) files.new) }
+        (Became files.old now file is_live
+        (appending files.old now file (origin source bytes.now)) files.new) }
     ensures err { OnErr result (files.new ≡ files.old) }
 {
     match source {
         Source::Draft(handle, opened) => files.finish(&handle, file, opened, now, is_live),
         Source::Version(number) => files.restore(file, number, now, is_live),
+        Source::Bytes => files.save(file, bytes, now, is_live),
     }
 }
 
@@ -188,16 +194,17 @@ pub fn append(
     head: &FileHead,
     again: bool,
     source: Source,
+    bytes: &[u8],
 ) -> Result<VersionNo, NoMemory>
     requires booked { IsBooked rows.old.files rows.old.book }
     requires absent { (k : Key) → comes (coming rows.old head.now.policy file again) k ≡ true
         → has_key k rows.old.queue ≡ false }
     requires roomy { IsRoomy rows.old.made.versions rows.old.book }
     requires stands { Stands rows.old.files file head.now }
-    requires ready { IsReady rows.old.files rows.old.moment file source }
+    requires ready { IsReady rows.old.files rows.old.moment file (origin source bytes.now) }
     ensures number { IfOk result (λ number. number ≡ next_of rows.old.files.files file) }
     ensures ok { OnOk result (world_of rows.new ≡ after_changes (world_of rows.old)
-        (appending rows.old.files rows.old.moment file source)) }
+        (appending rows.old.files rows.old.moment file (origin source bytes.now))) }
     ensures err { OnErr result (rows.new ≡ record rows.old { queue = rows.new.queue }) }
     ensures come { OnOk result ((k : Key) → has_key k rows.new.queue
         ≡ (comes (coming rows.old head.now.policy file again) k || has_key k rows.old.queue)) }
@@ -217,7 +224,7 @@ pub fn append(
     ];
     // All keys are added before the version, so that a refused one leaves no trace.
     put_changed(&mut rows.queue, &changes)?;
-    let put = put_version(&mut rows.files, file, source, now, is_live);
+    let put = put_version(&mut rows.files, file, source, bytes, now, is_live);
     let made = match put {
         Ok(made) => made,
         Err(refused) => {

@@ -1,6 +1,7 @@
 //! The versions that are due, and what the files use.
 ghost use Rattle.std.specs.Prelude.{◌≡◌, IfOk};
 ghost use Rattle.ele_due.specs.Queue.{is_ripe_by};
+ghost use Rattle.ele_model.specs.Change.{Time, after_change};
 ghost use Rattle.ele_model.specs.Due.{is_due};
 ghost use Rattle.ele_model.specs.Scan.{scan, first_due};
 ghost use Rattle.ele_model.specs.Usage.{usages};
@@ -57,6 +58,21 @@ impl State {
             return None;
         };
         if is_ripe(&key, self.rows.moment) {
+            Some(key)
+        } else {
+            None
+        }
+    }
+
+    // Returns the key that `due_first` returns once the clock is moved to the moment.
+    pub(crate) fn first_by(&self, moment: Moment) -> Option<Key>
+        ensures { result ≡ first_due (after_change self.now.world (Time moment)) }
+    {
+        moment.lemma_in_range();
+        let Some(key) = self.rows.queue.first() else {
+            return None;
+        };
+        if is_ripe(&key, moment) {
             Some(key)
         } else {
             None

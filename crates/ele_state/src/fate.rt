@@ -1,5 +1,5 @@
 //! What becomes of a held version, and which versions will be due.
-ghost use Rattle.std.specs.Prelude.{◌≡◌, ◌&&◌, true, false, Some, IfOk, IfSome, IfNone, find, option_and_then, slice_get};
+ghost use Rattle.std.specs.Prelude.{◌≡◌, ◌≢◌, ◌&&◌, true, false, [], Some, IfOk, OnErr, IfSome, IfNone, find, option_and_then, slice_get};
 ghost use Rattle.std.specs.Option.{option_map};
 ghost use Rattle.std.specs.Str.{bytes_eq};
 ghost use Rattle.ele_lists.specs.Lists.{AllLater};
@@ -207,11 +207,16 @@ impl State {
     /// then, in order of removal. For a moment before now these are the keys of versions that are
     /// due now and were ripe by then.
     ///
-    /// `NoMemory` if memory is refused.
+    /// `NoMemory` if memory is refused. If there is no such version, it takes none.
     pub fn due_by(&self, moment: Moment) -> Result<KeyList, NoMemory>
-        ensures { IfOk result
+        ensures keys { IfOk result
             (λ keys. keys ≡ scan (after_change self.now.world (Time moment))) }
+        ensures taken { OnErr result
+            (scan (after_change self.now.world (Time moment)) ≢ []) }
     {
+        if self.first_by(moment).is_none() {
+            return Ok(ListOf::new(self.rows.alloc));
+        }
         Ok(ListOf::from_vec(self.rows.queue.until(moment)?))
     }
 }

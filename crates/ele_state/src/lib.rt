@@ -3,11 +3,13 @@
 //! that the last clean read.
 #![tactic(auto)]
 
-ghost use Rattle.std.specs.Prelude.{◌≡◌, ◌≤◌, IfOk};
+ghost use Rattle.std.specs.Prelude.{◌≡◌, ◌≤◌, ◌+◌, nat_le, IfOk};
 ghost use Rattle.ele_moment.specs.Last.{last_moment};
 ghost use Rattle.ele_model.specs.Bounds.{AreBounds};
 ghost use Rattle.ele_model.specs.Change.{Time, after_change};
+ghost use Rattle.ele_model.specs.CountsOf.{counts_of};
 ghost use Rattle.ele_model.specs.NoIdleStays.{HasNoIdle};
+ghost use Rattle.ele_model.specs.Step.{versions_made};
 ghost use Rattle.ele_model.specs.WellFormed.{IsWellFormed};
 ghost use Rattle.ele_model.specs.World.{fresh_world};
 ghost use Rattle.ele_state.specs.Full.{is_full, made_of};
@@ -136,18 +138,27 @@ impl State {
         self.made(which) >= self.rows.limits.limit(which)
     }
 
+    /// Returns whether the limit of versions is reached by one version more. Open drafts count as
+    /// versions.
+    pub fn is_nearly_full(&self) -> bool
+        ensures { result ≡ nat_le self.now.world.limits.versions
+            (versions_made self.now.world + 1) }
+    {
+        let limit = self.rows.limits.limit(Which::Versions);
+        self.made(Which::Versions) >= limit.saturating_sub(1)
+    }
+
     // How many of that kind were ever made. Open drafts count as versions.
-    #[tactic(auto, using(crate::proofs::Bounded::versions_few))]
     fn made(&self, which: Which) -> u64
         ensures { result ≡ made_of self.now.world which }
     {
-        let made = &self.rows.made;
+        let made = self.counts();
         match which {
             Which::Files => made.files,
             Which::Directories => made.directories,
             Which::Names => made.names,
-            Which::Versions => made.versions + self.rows.files.drafts_open() as u64,
-            Which::Handles => self.rows.files.handles_opened(),
+            Which::Versions => made.versions,
+            Which::Handles => made.handles,
             Which::Groups => made.groups,
             Which::Members => made.members,
             Which::Marks => made.marks,
@@ -197,5 +208,24 @@ impl State {
             },
             limits: rows.limits,
         })
+    }
+
+    /// Returns how many of each kind were ever made, as the limits count them: open drafts count as
+    /// versions.
+    #[tactic(auto, using(crate::proofs::Bounded::versions_few))]
+    pub fn counts(&self) -> Counts
+        ensures { result ≡ counts_of self.now.world }
+    {
+        let rows = &self.rows;
+        Counts {
+            files: rows.made.files,
+            directories: rows.made.directories,
+            names: rows.made.names,
+            versions: rows.made.versions + rows.files.drafts_open() as u64,
+            handles: rows.files.handles_opened(),
+            groups: rows.made.groups,
+            members: rows.made.members,
+            marks: rows.made.marks,
+        }
     }
 }

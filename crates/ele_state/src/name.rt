@@ -20,6 +20,14 @@ use ele_model::{DirId, FileId, ListOf, Moment, Name, NameList, NameRow, NoMemory
 use ele_names::Found;
 
 impl State {
+    /// Returns the target of the directory's live name, if there is such a name.
+    pub fn live(&self, directory: DirId, name: &Name) -> Option<Target>
+        ensures value { result ≡ live_target self.now.world.names directory name.now }
+        ensures there { IfSome result (λ target. IsPresent self.now.world target) }
+    {
+        self.rows.names.live(directory, name)
+    }
+
     /// Returns whether the directory has such a live name.
     pub fn is_taken(&self, directory: DirId, name: &Name) -> bool
         ensures { result ≡ is_some (live_target self.now.world.names directory name.now) }

@@ -6,7 +6,7 @@ ghost use Rattle.ele_state.specs.Inside.{world_of, IsSound};
 
 use crate::State;
 use crate::rows::Rows;
-use ele_model::{DeadName, DeadNameList, DirId, FileId, ListOf, Name, NoMemory, Target};
+use ele_model::{DeadName, DeadNameList, DirId, FileId, ListOf, Name, NoMemory, Target, VersionNo};
 
 // Whether the file's last version is held.
 #[tactic(auto, using(crate::proofs::Words::nat_tests, crate::proofs::Revived::unheld, crate::proofs::Revived::no_next, crate::proofs::Revived::stamped, crate::proofs::ClosedSteps::number_told))]
@@ -29,6 +29,17 @@ impl State {
         match *target {
             Target::File(file) => has_last_version(&self.rows, file),
             Target::Directory(id) => !self.rows.names.dir_live(id),
+        }
+    }
+
+    /// Returns the number of the file's last version; 0 if there is no such file.
+    #[tactic(auto, using(crate::proofs::Words::nat_tests, crate::proofs::Revived::no_next, crate::proofs::ClosedSteps::number_told))]
+    pub fn last_number(&self, file: FileId) -> VersionNo
+        ensures { result ≡ next_of self.now.world.files file - 1 }
+    {
+        match self.rows.files.next_of(file) {
+            Some(next) => next.before(),
+            None => VersionNo(0),
         }
     }
 

@@ -3,13 +3,14 @@ ghost use Rattle.std.specs.Prelude.{◌≡◌, ◌<◌, ◌≤◌, ◌+◌, ◌�
 ghost use Rattle.std.specs.Option.{option_map};
 ghost use Rattle.std.specs.Result.{result_map_both};
 ghost use Rattle.ele_content.specs.Content.{content_of, longest_content};
-ghost use Rattle.ele_files.specs.Closing.{opening_by};
+ghost use Rattle.ele_files.specs.Closing.{left_by, opening_by};
 ghost use Rattle.ele_files.specs.Copied.{IsCopied};
-ghost use Rattle.ele_model.specs.Change.{OpenHandle, StartDraft, TruncateDraft, WriteDraft, after_change, after_changes};
+ghost use Rattle.ele_files.specs.Held.{with_rows};
+ghost use Rattle.ele_model.specs.Change.{DropIdle, OpenHandle, StartDraft, TruncateDraft, WriteDraft, after_change, after_changes};
 ghost use Rattle.ele_model.specs.Step.{cells_read, step, versions_made};
 ghost use Rattle.ele_model.specs.World.{file_by, has_draft, is_draft, is_held, next_of, reads_by};
 ghost use Rattle.ele_model.specs.declared.event.Event.TheVariants as event;
-ghost use Rattle.ele_model.specs.declared.reply.Reply.TheVariants.{Closed};
+ghost use Rattle.ele_model.specs.declared.reply.Reply.TheVariants.{Closed, Done};
 ghost use Rattle.ele_model.specs.declared.rows.Reads.TheVariants.{Draft, Version};
 ghost use Rattle.ele_sessions.specs.Found.{StandsAt};
 ghost use Rattle.ele_state.specs.Inside.{world_of, IsTracked, IsSound};
@@ -70,8 +71,11 @@ impl State {
     /// Returns the bytes of the draft or the version.
     ///
     /// `NoMemory` if memory is refused.
+    #[tactic(auto, using(crate::proofs::Words::nat_tests, crate::proofs::ClosedSums::draft_short, crate::proofs::ClosedSums::version_short))]
     pub fn bytes_of(&self, reads: Reads) -> Result<ByteList, NoMemory>
-        ensures { IfOk result (λ bytes. bytes ≡ content_of (cells_read self.now.world reads)) }
+        ensures bytes { IfOk result
+            (λ bytes. bytes ≡ content_of (cells_read self.now.world reads)) }
+        ensures short { IfOk result (λ bytes. length bytes ≤ longest_content) }
     {
         match reads {
             Reads::Draft(file) => self.rows.files.draft_content(file),
@@ -184,6 +188,20 @@ impl State {
     }
 }
 
+impl State {
+    /// Ends a handle that writes the file. If no other handle writes it, its draft is removed, and
+    /// makes no version. A file without live name, version and draft is then dropped. It takes no
+    /// memory.
+    pub fn abandon(&mut self, handle: &FoundHandle, file: FileId)
+        requires stands { StandsAt self.old.world.handles handle.now }
+        requires reads { handle.now.row.reads ≡ Draft file }
+        ensures { (Done, self.new.world)
+            ≡ step self.old.world (event.Abandon handle.now.row.number) }
+    {
+        leave(&mut self.rows, handle, file);
+    }
+}
+
 // Closes the last handle of a changed draft, which becomes the file's next version.
 #[tactic(auto, using(crate::proofs::ClosedSteps::numbered, crate::proofs::ClosedSteps::past, crate::proofs::ClosedSteps::writes_file))]
 fn finish(
@@ -204,27 +222,26 @@ fn finish(
 {
     let head = head(&rows.files, file);
     let source = Source::Draft(*handle, opened);
-    let number = append(rows, file, &head, false, source)?;
+    let number = append(rows, file, &head, false, source, &[])?;
     Ok(Some(number))
 }
 
-// Closes a handle of a draft that stays, or is removed without a version. A file without live name,
-// version and draft is then dropped.
-#[tactic(auto, using(crate::proofs::Words::nat_tests, crate::proofs::Booked::fits, crate::proofs::ClosedSums::left_owed, crate::proofs::ClosedSums::left_answer))]
-fn leave(rows: &mut Rows, handle: &FoundHandle, file: FileId) -> Option<VersionNo>
+// Removes a handle of a draft that stays, or is removed without a version. A file without live
+// name, version and draft is then dropped.
+#[tactic(auto, using(crate::proofs::Words::nat_tests, crate::proofs::Booked::fits, crate::proofs::ClosedSums::left_owed))]
+fn leave(rows: &mut Rows, handle: &FoundHandle, file: FileId)
     requires sound { IsSound rows.old }
     requires stands { StandsAt rows.old.files.handles handle.now }
     requires reads { reads_by rows.old.files.handles handle.now.row.number ≡ Ok (Draft file) }
-    requires unchanged { opening_by rows.old.files handle.now.row.number ≡ None }
-    ensures step { (Closed result, world_of rows.new)
-        ≡ step (world_of rows.old) (event.Close handle.now.row.number) }
+    ensures world { world_of rows.new ≡ after_change
+        (with_rows (world_of rows.old) (left_by rows.old.files handle.now.row.number))
+        (DropIdle file) }
     ensures tracked { IsTracked rows.new }
 {
     let before = blocks(&rows.files);
     rows.files.leave(handle);
     follow_blocks(&mut rows.book, &rows.files, file, before);
     drop_idle(rows, file);
-    None
 }
 
 // Closes a handle that reads a version. With its last reader the version gets its key again, if it
@@ -258,6 +275,7 @@ fn unread(
 }
 
 // Closes a handle that writes a file.
+#[tactic(auto, using(crate::proofs::ClosedSums::left_answer))]
 fn unwrite(
     rows: &mut Rows,
     handle: &FoundHandle,
@@ -274,6 +292,9 @@ fn unwrite(
 {
     match rows.files.changed_draft(handle) {
         Some(opened) => finish(rows, handle, file, opened),
-        None => Ok(leave(rows, handle, file)),
+        None => {
+            leave(rows, handle, file);
+            Ok(None)
+        }
     }
 }

@@ -1,10 +1,11 @@
 //! Versions that are restored or removed, and questions about them.
-ghost use Rattle.std.specs.Prelude.{◌≡◌, ◌-◌, ◌<◌, ◌∷◌, [], true, false, Some, IfOk, OnOk, OnErr, filter, is_some, map};
+ghost use Rattle.std.specs.Prelude.{◌≡◌, ◌-◌, ◌<◌, ◌≤◌, ◌∷◌, [], true, false, Some, IfOk, OnOk, OnErr, filter, is_some, length, map};
 ghost use Rattle.std.specs.Result.{result_map_both};
-ghost use Rattle.ele_model.specs.Change.{Append, DropIdle, Revive, Take, after_change, after_changes};
+ghost use Rattle.ele_content.specs.Content.{longest_content};
+ghost use Rattle.ele_model.specs.Change.{Append, DropIdle, Revive, Take, after_change, after_changes, version_cells};
 ghost use Rattle.ele_model.specs.FileView.{is_version_of};
 ghost use Rattle.ele_model.specs.Scan.{first_due};
-ghost use Rattle.ele_model.specs.Step.{version_cells, versions_made};
+ghost use Rattle.ele_model.specs.Step.{cells_by, versions_made};
 ghost use Rattle.ele_model.specs.Tagged.{version_at, version_meant};
 ghost use Rattle.ele_model.specs.Told.{info_of};
 ghost use Rattle.ele_model.specs.Walk.{live_target};
@@ -59,13 +60,12 @@ impl State {
         self.rows.files.stamps_of_file(file)
     }
 
-    /// Makes a new version of a live file without a draft, with the content of the held version of
-    /// that number. Returns the new version's number.
+    /// Makes a new version of a file without a draft, with the content of the held version of that
+    /// number. Returns the new version's number.
     ///
     /// `NoMemory` if memory is refused; the world stays as it was.
     #[tactic(auto, using(crate::proofs::Words::nat_tests))]
     pub fn revert_to(&mut self, file: FileId, number: VersionNo) -> Result<VersionNo, NoMemory>
-        requires live { is_live self.old.world file ≡ true }
         requires held { is_held self.old.world file number ≡ true }
         requires undrafted { has_draft self.old.world file ≡ false }
         requires room { versions_made self.old.world < self.old.world.limits.versions }
@@ -77,11 +77,31 @@ impl State {
     {
         let head = head(&self.rows.files, file);
         let source = Source::Version(number);
-        append(&mut self.rows, file, &head, false, source)
+        append(&mut self.rows, file, &head, false, source, &[])
+    }
+
+    /// Makes a new version of a file without a draft, with these bytes. Returns the new version's
+    /// number.
+    ///
+    /// `NoMemory` if memory is refused; the world stays as it was.
+    #[tactic(auto, using(crate::proofs::Words::nat_tests))]
+    pub fn save(&mut self, file: FileId, bytes: &[u8]) -> Result<VersionNo, NoMemory>
+        requires there { 0 < next_of self.old.world.files file }
+        requires undrafted { has_draft self.old.world file ≡ false }
+        requires room { versions_made self.old.world < self.old.world.limits.versions }
+        requires short { length bytes.now ≤ longest_content }
+        ensures number { IfOk result (λ number. number ≡ next_of self.old.world.files file) }
+        ensures ok { OnOk result (self.new.world ≡ after_change self.old.world
+            (Append file self.old.world.now
+            (cells_by (next_of self.old.world.files file) bytes.now))) }
+        ensures err { OnErr result (self.new.world ≡ self.old.world) }
+    {
+        let head = head(&self.rows.files, file);
+        append(&mut self.rows, file, &head, false, Source::Bytes, bytes)
     }
 
     /// Gives a file without a live name and without a draft a name again, and a new version with
-    /// the content of its last one. Returns the new version's number.
+    /// the content of the held version of that number. Returns the new version's number.
     ///
     /// `NoMemory` if memory is refused; the world stays as it was.
     #[tactic(auto, using(crate::proofs::Words::nat_tests))]
@@ -90,21 +110,21 @@ impl State {
         directory: DirId,
         name: Name,
         file: FileId,
+        number: VersionNo,
     ) -> Result<VersionNo, NoMemory>
         requires home { IsHome self.old.world directory }
         requires free { is_some (live_target self.old.world.names directory name) ≡ false }
         requires names { self.old.world.made.names < self.old.world.limits.names }
         requires versions { versions_made self.old.world < self.old.world.limits.versions }
         requires dead { is_live self.old.world file ≡ false }
-        requires held { is_held self.old.world file (next_of self.old.world.files file - 1) ≡ true }
+        requires held { is_held self.old.world file number ≡ true }
         requires undrafted { has_draft self.old.world file ≡ false }
         ensures number { IfOk result (λ number. number ≡ next_of self.old.world.files file) }
         ensures ok { OnOk result (self.new.world
-            ≡ after_change self.old.world (Revive directory name file)) }
+            ≡ after_change self.old.world (Revive directory name file number)) }
         ensures err { OnErr result (self.new.world ≡ self.old.world) }
     {
         let head = head(&self.rows.files, file);
-        let last = head.next.before();
         // With a name the rule asks for newer versions again, and the new version is one of them.
         let asked = head.policy.rule_in(true).newer;
         let gone = freed(&self.rows, file, &head, asked.saturating_sub(1))?;
@@ -112,7 +132,8 @@ impl State {
         self.rows
             .names
             .add(directory, name, Target::File(file), self.rows.moment)?;
-        match append(&mut self.rows, file, &head, true, Source::Version(last)) {
+        let source = Source::Version(number);
+        match append(&mut self.rows, file, &head, true, source, &[]) {
             Ok(number) => {
                 take_back(&mut self.rows.queue, &gone);
                 self.rows.made.names += 1;

@@ -1,15 +1,13 @@
 -- Which closes and which undeletes make a version.
 use Rattle.ele_model.proofs.Basics.{nat_tests, arith, ◌≡◌, ℕ, false, List, Some, None, Ok, refl, subst}
-use Rattle.ele_model.proofs.Words.{World, EndDraft, ShutHandle, after_change, file_by, has_draft, last_target, nameless, next_of, parent_now, plan, reads_by}
-use Rattle.ele_world.proofs.Words.{Close, Draft, Target, File, Undelete}
+use Rattle.ele_model.proofs.Words.{World, EndDraft, ShutHandle, after_change, has_draft, last_target, nameless, next_of, parent_now, plan}
+use Rattle.ele_world.proofs.Words.{Close, Target, File, Undelete}
 use Rattle.ele_model.specs.declared.reply.Reply.TheVariants as reply
 use Rattle.ele_world.specs.CloseTells.{CloseTells, CloseLeaves}
 use Rattle.ele_world.specs.UndeleteRevives.{RevivesFile, UndeleteRevives}
 use Rattle.ele_model.proofs.Dropped.{dropped_versions}
 use Rattle.ele_model.proofs.PlanOutcomes.{in_all}
-
-reads_draft : (w : World) (handle file : ℕ) → file_by w.handles handle ≡ Ok file → reads_by w.handles handle ≡ Ok (Draft file)
-reads_draft w handle file written = grind (arith, nat_tests)
+use Rattle.ele_model.proofs.Readers.{reads_draft}
 
 pub close_tells : CloseTells
 close_tells w handle file draft written drafted = grind (arith, nat_tests, drafted, reads_draft w handle file written)

@@ -1,13 +1,14 @@
 -- The law of an event made in both worlds: its plan is the same, and each change keeps what is missing.
-use Rattle.ele_model.proofs.Basics.{◌≡◌, ◌<◌, ℕ, Bool, true, false, cond, List, [], ◌∷◌, None, Some, Option, Result, Ok, Err, refl, ap, sym, subst, ◌∙◌, arith, nat_tests, find, list_any, option_map_or, all-found, any-found, found_passes, false≢true, filter, ◌+◌}
+use Rattle.ele_model.proofs.Basics.{◌≡◌, ◌<◌, ℕ, Bool, true, false, cond, List, [], ◌∷◌, None, Some, Option, Result, Ok, Err, refl, ap, sym, subst, ◌∙◌, arith, nat_tests, find, length, list_any, nat_lt, option_map_or, all-found, any-found, found_passes, false≢true, filter, ◌+◌}
 use Rattle.ele_model.proofs.Words.{Append, AddName, Change, Drafts, DropIdle, EndDraft, EndFileName, EndName, IsEvent, SetDirectoryDefault, Handles, IsDraft, IsHandle, HasParts, MakeDirectory, MakeFile, MoveName, OpenHandle, ShutHandle, StartDraft, Time, TruncateDraft, World, WriteDraft}
 use Rattle.ele_model.specs.declared.event.Event.TheVariants.{RemoveDir}
-use Rattle.ele_world.proofs.Words.{Clock, Close, Create, Directory, Draft, DraftRow, Event, File, Link, MakeDir, OpenWrite, Refusal, Rename, Reply, SetDefault, Target, Tick, Truncate, Unlink, Write}
-use Rattle.ele_model.proofs.Words.{after_change, after_changes, asks, draft_read, default_of, is_live_in, live_target, stands_in, walk, file_by, has_draft, is_draft, is_handle, next_of, outcome, plan, reads_by}
+use Rattle.ele_world.proofs.Words.{Abandon, Clock, Close, Create, Directory, Draft, DraftRow, Event, File, Link, MakeDir, NameRow, OpenWrite, Refusal, Rename, Reply, Save, SetDefault, Target, Tick, Truncate, Unlink, Write}
+use Rattle.ele_model.proofs.Words.{after_change, after_changes, asks, cells_by, draft_read, file_standing, longest_content, parent_now, save_new_plan, save_plan, default_of, is_live_in, live_target, stands_in, walk, file_by, has_draft, is_draft, is_handle, next_of, outcome, plan, reads_by, IfFound, Need, Plan, Unless}
 use Rattle.ele_world.specs.EventLags.{LagsAfter}
 use Rattle.ele_world.specs.Lags.{Lags}
 use Rattle.ele_world.specs.Less.{less, is_dropped}
 use Rattle.ele_model.specs.Plan.{found_outcome}
+use Rattle.ele_model.specs.declared.refusal.Refusal.TheVariants.{TooBig}
 use Rattle.ele_model.specs.Step.{has_other_writer}
 use Rattle.ele_world.specs.PlainEvents.{is_plain}
 use Rattle.ele_model.proofs.Allowed.{allowed}
@@ -15,13 +16,14 @@ use Rattle.ele_world.proofs.ChangesLag.{Behind, drafted_there, lagging, live_the
 use Rattle.ele_world.proofs.DraftsLag.{drop_both, end_draft_both, open_both, shut_both, start_both, truncate_both, write_both}
 use Rattle.ele_world.proofs.NamesLag.{add_both, directory_both, end_both, end_file_both, govern_both, move_both, time_both}
 use Rattle.ele_world.proofs.PlansLag.{both_after, same_reply}
-use Rattle.ele_world.proofs.NewVersionsLag.{append_both, make_both}
+use Rattle.ele_world.proofs.NewVersionsLag.{append_both, fresh, make_both}
 use Rattle.ele_model.proofs.Keeps.{event_keeps}
 use Rattle.ele_world.proofs.LagsKeeps.{next_same, stays_name}
 use Rattle.ele_world.proofs.LiveNames.{names_in_stay, stands_stays, target_stays, walk_stays}
-use Rattle.ele_model.proofs.May.{MayBy}
+use Rattle.ele_model.proofs.May.{MayBy, MayPlan}
 use Rattle.ele_model.proofs.PlanOutcomes.{InAll, asking_stays}
-use Rattle.ele_model.proofs.Walks.{file_live, target_live}
+use Rattle.ele_lists.proofs.Cuts.{any-found as first_passing}
+use Rattle.ele_model.proofs.Walks.{file_live, standing_is, target_live}
 
 -- answers that are the same of whatever is found
 found_same : {X : Type 0} (w : World) (found : Result X Refusal) (g h : X → Reply × World) → ((x : X) → found ≡ Ok x → g x ≡ h x) → found_outcome w found g ≡ found_outcome w found h
@@ -119,6 +121,45 @@ module _ (gone : ℕ → ℕ → Bool) (dropped : ℕ → Bool) (v : World) (b :
       vanished : Lagging (c ∷ d ∷ DropIdle file ∷ [])
       vanished = drop_both gone dropped (after_changes behind (c ∷ d ∷ [])) (after_changes v (c ∷ d ∷ [])) ended_behind file file_there (draft_there file draft drafted)
 
+  -- ---- a save
+
+  standing_live : (at : ℕ × List ℕ) (standing : Option ℕ) (file : ℕ) → file_standing (live_target v.names at.0 at.1) ≡ Ok standing → standing ≡ Some file → dropped file ≡ false
+  standing_live at standing file stood is = live_there gone dropped behind v b file (target_live v.names at.0 at.1 (File file) (standing_is (live_target v.names at.0 at.1) standing file stood is))
+
+  -- what a save does by these names
+  abbrev saving : List NameRow → World → List (List ℕ) → List ℕ → Plan
+  saving names w path bytes =
+      Need (parent_now names path) (λ at.
+      Need (file_standing (live_target names at.0 at.1)) (λ standing.
+      Unless (nat_lt longest_content (length bytes)) TooBig
+      (IfFound standing (save_new_plan w at bytes) (λ file. save_plan w file bytes))))
+
+  names_same : (path : List (List ℕ)) (bytes : List ℕ) → outcome behind (saving behind.names behind path bytes) ≡ outcome behind (saving v.names behind path bytes)
+  names_same path bytes = simp (walks, targets)
+
+  save_same : (path : List (List ℕ)) (bytes : List ℕ) → outcome behind (plan behind (Save path bytes)) ≡ outcome behind (plan v (Save path bytes))
+  save_same path bytes = names_same path bytes ∙ found_same behind (parent_now v.names path) _ _ (λ at found. found_same behind (file_standing (live_target v.names at.0 at.1)) _ _ (λ standing stood. test_same (nat_lt longest_content (length bytes)) _ _ _ (some_same standing _ _ _ (λ file is. rw (next_same dropped file (standing_live at standing file stood is) v.files) refl))))
+
+  module _ (path : List (List ℕ)) (bytes : List ℕ) (at : ℕ × List ℕ) where
+    -- a file's next version
+    saved : (file : ℕ) → MayBy (Save path bytes) v v (Append file v.now (cells_by (next_of v.files file) bytes)) → dropped file ≡ false → Lagging (Append file v.now (cells_by (next_of v.files file) bytes) ∷ [])
+    saved file may stays =
+        let a = Append file v.now (cells_by (next_of v.files file) bytes) in
+        one (Save path bytes) tt a may (append_both gone dropped behind v b file v.now (cells_by (next_of v.files file) bytes) may.there stays)
+
+    -- a new file with two
+    saved_new : (may : MayPlan (Save path bytes) v (save_new_plan v at bytes)) → InAll (λ reply changes. Lagging changes) (save_new_plan v at bytes)
+    saved_new may = λ files names versions.
+        let id = v.made.files + 1 in
+        let policy = default_of v.directories at.0 in
+        let c = MakeFile at.0 at.1 id policy in
+        let a = Append id v.now (cells_by 2 bytes) in
+        let both = may files names versions in
+        let then = make_both gone dropped behind v b at.0 at.1 policy formed (event_keeps (Save path bytes) v v c tt both.0 b.formed) in
+        let v1 : World = after_change v c in
+        let u1 : World = after_change behind c in
+        lagging gone dropped (after_change u1 a) (after_change v1 a) (append_both gone dropped u1 v1 then id v.now (cells_by 2 bytes) both.1.0.there (fresh gone dropped behind v b at.0 at.1 policy formed) (event_keeps (Save path bytes) v v1 a tt both.1.0 then.formed))
+
   -- ---- the events
 
   names_lag : (event : Event) → IsEvent event → is_plain event ≡ true → asks event ≡ false → LagsAfter behind v event
@@ -167,6 +208,15 @@ module _ (gone : ℕ → ℕ → Bool) (dropped : ℕ → Bool) (v : World) (b :
       ),
     ),
   ))
+  names_lag (Abandon handle) is plain changes = by_plan (Abandon handle) refl (λ file writes. (
+    λ other. shut handle tt,
+    λ last. let (draft, drafted) = first_passing (is_draft file) v.drafts (written_drafted v handle file b.formed writes) in vanished handle tt file draft last drafted,
+  ))
+  names_lag (Save path bytes) is plain changes = by_plan (Save path bytes) (save_same path bytes) (λ at found standing stood fits.
+      let may = allowed v (Save path bytes) b.formed at found standing stood fits in (
+        λ none. saved_new path bytes at (may.0 none),
+        λ file its drafts versions. saved path bytes at file (may.1 file its drafts versions).0 (standing_live at standing file stood its),
+      ))
   names_lag event is plain changes = absurd cc
 
 -- an event that asks leaves both worlds

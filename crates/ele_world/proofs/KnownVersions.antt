@@ -1,7 +1,7 @@
 -- What a history knows of versions: those that are held, and those that were removed as they last were; at each moment from its
 -- start on that a name covers a version of its file lived. A change keeps that.
 use Rattle.ele_model.proofs.Basics.{◌≡◌, ℕ, ◌-◌, ◌<◌, ◌≤◌, true, false, List, [], Option, Some, None, refl, ap, sym, subst, ◌∙◌, arith, find, AllByRecursion, option_or, false≢true, nat_tests, all-found, find-insert_before, find-inserted, not_found, remove_first, all-not_found, all-remove_first, all-weaker, found_passes, AllLater, ◌++◌, ◌∷◌, list_any, cases_lt, update_first, all-filter, all-both, all-push}
-use Rattle.ele_model.proofs.Words.{Cell, current_cells, Change, Time, EndFileName, Revive, MakeFile, Append, Take, DropIdle, after_change, ended_at, next_version, with_end, with_file, with_name, with_version, covers, lives_at, ArePlaced, IsVersion, Versions, HasParts, World, is_live, is_version, is_version_after, next_of, MakeDirectory, EndName, AddName, MoveName, born_row, dies, is_live_name, IsNameRow, Names, is_live_name_of}
+use Rattle.ele_model.proofs.Words.{Cell, version_cells, Change, Time, EndFileName, Revive, MakeFile, Append, Take, DropIdle, after_change, ended_at, next_version, with_end, with_file, with_name, with_version, covers, lives_at, ArePlaced, IsVersion, Versions, HasParts, World, is_live, is_version, is_version_after, next_of, MakeDirectory, EndName, AddName, MoveName, born_row, dies, is_live_name, IsNameRow, Names, is_live_name_of}
 use Rattle.ele_world.proofs.Words.{Event, NameRow, File, VersionRow, Target, Directory}
 use Rattle.ele_model.proofs.Dropped.{dropped, dropped_versions, stays_named}
 use Rattle.ele_model.proofs.May.{MayBy}
@@ -9,7 +9,7 @@ use Rattle.ele_headline.proofs.HeldRows.{IsBehind, IsPast, change_past, Moves, r
 use Rattle.ele_headline.proofs.HeldStays.{held_past}
 use Rattle.ele_model.proofs.Versions.{IsEndedBy, other_ended}
 use Rattle.ele_model.proofs.Currents.{has_current}
-use Rattle.ele_model.proofs.KeptRevived.{last_is}
+use Rattle.ele_model.proofs.KeptRevived.{numbered_is}
 use Rattle.ele_model.proofs.NameParts.{still_none}
 
 -- each version that closed, as it last was
@@ -89,7 +89,7 @@ module _ (file number : ℕ) (row : VersionRow) where
   change_closes : (w : World) (change : Change) → row_of w file number ≡ None → row_of (after_change w change) file number ≡ Some row → row.closed ≡ (after_change w change).now
   change_closes w (MakeFile directory name id policy) none found = new_closes (with_name (with_file w id policy) directory name (File id)) id w.now [] none found
   change_closes w (Append of opened cells) none found = new_closes w of opened cells none found
-  change_closes w (Revive directory name of) none found = new_closes (with_name w directory name (File of)) of w.now (current_cells w of) none found
+  change_closes w (Revive directory name of again) none found = new_closes (with_name w directory name (File of)) of w.now (version_cells w of again) none found
   change_closes w (EndFileName directory name of) none found = grind (arith, none, found, ended_closes w of)
   change_closes w (Take of taken) none found = grind (arith, none, found, all-remove_first (is_version of taken) (λ x. is_version file number x ≡ false) w.versions, all-not_found (is_version file number) w.versions, not_found (is_version file number) (remove_first (is_version of taken) w.versions))
   change_closes w (DropIdle of) none found = grind (arith, none, found, dropped_versions w of)
@@ -117,7 +117,7 @@ change_covered w (EndName directory name) life all = died w.now life directory n
 change_covered w (AddName directory name target) life all = born w.now life directory name target w.names all
 change_covered w (MoveName from old to new target) life all = born w.now life to new target (update_first (is_live_name from old) (dies w.now) w.names) (died w.now life from old w.names all)
 change_covered w (EndFileName directory name of) life all = died w.now life directory name w.names all
-change_covered w (Revive directory name of) life all = born w.now life directory name (File of) w.names all
+change_covered w (Revive directory name of again) life all = born w.now life directory name (File of) w.names all
 change_covered w (MakeFile directory name id policy) life all = born w.now life directory name (File id) w.names all
 change_covered w (DropIdle of) life all = dropped (λ v. AllByRecursion (CoveredBefore w.now life) v.names) w of (λ idle. all-filter (CoveredBefore w.now life) (stays_named of) w.names all) (λ busy. all)
 change_covered w change life all = all
@@ -133,7 +133,7 @@ current_covers : (w : World) (known : Known) → HasParts w → ((file number : 
     → AllByRecursion (CoveredFrom w.now (HadLife known)) w.names
 current_covers w known k held = grind (arith, nat_tests, all-weaker (λ name. IsNameRow w.files w.now name × ((file : ℕ) → is_live_name_of file name ≡ true → is_live w file ≡ true)) (CoveredFrom w.now (HadLife known)) w.names, one, all-both (IsNameRow w.files w.now), (k.holds Names).each, counted_live w.names) where
   life : (file moment : ℕ) → w.now ≤ moment → is_live w file ≡ true → HadLife known file moment
-  life file moment late live = grind (arith, nat_tests, k.holds Versions, has_current w file k live, last_is w file)
+  life file moment late live = grind (arith, nat_tests, k.holds Versions, has_current w file k live, numbered_is w file (next_of w.files file - 1))
 
   one : (name : NameRow) → IsNameRow w.files w.now name × ((file : ℕ) → is_live_name_of file name ≡ true → is_live w file ≡ true) → CoveredFrom w.now (HadLife known) name
   one name h file moment own covered late = life file moment late (h.1 file (let dead = h.0.dead in grind (arith, nat_tests)))

@@ -1,8 +1,8 @@
 -- After a create, a mkdir or an undelete its path leads to what is made, or to what the name last meant.
-use Rattle.ele_model.proofs.Basics.{◌≡◌, ℕ, ◌+◌, false, List, Some, Ok, ap, subst, arith, is_some, nat_tests, find-append, all-weaker, not_found, ◌≤◌, refl, list_any-append}
+use Rattle.ele_model.proofs.Basics.{◌≡◌, ℕ, ◌+◌, ◌-◌, false, List, Some, Ok, ap, subst, arith, is_some, nat_tests, find-append, all-weaker, not_found, ◌≤◌, refl, list_any-append}
 use Rattle.ele_model.proofs.Words.{after_change, MakeFile, Policy, plan, step, live_target, file_at, parent_now, Files, HasParts, World, default_of, next_of, current_of, MakeDirectory, is_live_in}
 use Rattle.ele_world.proofs.Words.{Create, Directory, Done, File, HasNameAgain, HasVersionAgain, LeadsAgain, LeadsToDirectory, LeadsToNew, MakeDir, Target, Undelete}
-use Rattle.ele_model.proofs.Words.{directory_in, Directories, Homes, is_directory, AddName, Revive, current_cells, next_version, with_name, last_target, Versions}
+use Rattle.ele_model.proofs.Words.{directory_in, Directories, Homes, is_directory, AddName, Revive, version_cells, next_version, with_name, last_target, Versions}
 use Rattle.ele_model.specs.declared.reply.Reply.TheVariants as reply
 use Rattle.ele_model.proofs.Created.{new_file, made_is, versions_before, named_live}
 use Rattle.ele_model.proofs.Files.{next_of-new, next_of-numbered_on}
@@ -56,15 +56,28 @@ module _ (w : World) (path : List (List ℕ)) (at : ℕ × List ℕ) (k : HasPar
   name_again : (lost : Target) → last_target w.names at.0 at.1 ≡ Ok lost → HasNameAgain w path (after_change w (AddName at.0 at.1 lost))
   name_again lost last = record { target = lost; named = named_again lost (with_name w at.0 at.1 lost) refl last; versions = refl }
 
-  module _ (file : ℕ) (may : MayRevive w at.0 at.1 file) where
+  module _ (file held : ℕ) (may : MayRevive w at.0 at.1 file held) where
     abbrev revived : World
-    revived = after_change w (Revive at.0 at.1 file)
+    revived = after_change w (Revive at.0 at.1 file held)
 
-    current_is : current_of revived file ≡ Some (next_version (with_name w at.0 at.1 (File file)) file w.now (current_cells w file))
-    current_is = grind (arith, nat_tests, again w at.0 at.1 file may (k.holds Versions).each, next_of-numbered_on w.files file, new_found (with_name w at.0 at.1 (File file)) file (k.holds Versions).each w.now (current_cells w file))
+    pub current_is : current_of revived file ≡ Some (next_version (with_name w at.0 at.1 (File file)) file w.now (version_cells w file held))
+    current_is = grind (arith, nat_tests, again w at.0 at.1 file held may (k.holds Versions).each, next_of-numbered_on w.files file, new_found (with_name w at.0 at.1 (File file)) file (k.holds Versions).each w.now (version_cells w file held))
 
-    version_again : (number : ℕ) → next_of w.files file ≡ number → last_target w.names at.0 at.1 ≡ Ok (File file) → HasVersionAgain w path number revived
-    version_again number same last = grind (arith, nat_tests, named_again (File file) revived refl last, current_is, named_live w at.0 at.1 file)
+  module _ (file : ℕ) (may : MayRevive w at.0 at.1 file (next_of w.files file - 1)) where
+    version_again : (number : ℕ) → next_of w.files file ≡ number → last_target w.names at.0 at.1 ≡ Ok (File file) → HasVersionAgain w path number (after_change w (Revive at.0 at.1 file (next_of w.files file - 1)))
+    version_again number same last =
+        let held = next_of w.files file - 1 in
+        record {
+          file = file;
+          last = may.row;
+          current = next_version (with_name w at.0 at.1 (File file)) file w.now (version_cells w file held);
+          named = named_again (File file) (after_change w (Revive at.0 at.1 file held)) refl last;
+          was = may.held;
+          is = current_is file held may;
+          numbered = same;
+          no_end = rw (named_live w at.0 at.1 file) refl;
+          cells = rw may.held refl;
+        }
 
 pub undelete_leads : (w : World) (path : List (List ℕ)) → HasParts w
     → ((step w (Undelete path)).0 ≡ Done → HasNameAgain w path ((step w (Undelete path)).1))

@@ -2,6 +2,7 @@ pub mod Words
 pub mod ChangeKeeps
 pub mod OpenStays
 pub mod Closes
+pub mod Abandons
 pub mod NameRowsKept
 pub mod Fates
 pub mod MarkedRipens
@@ -30,6 +31,8 @@ pub mod DifferentPlaces
 pub mod SlotsKept
 pub mod CellsStay
 pub mod OneContent
+pub mod Saves
+pub mod Sessions
 pub mod Governs
 pub mod Written
 pub mod Numbered

@@ -1,6 +1,6 @@
 -- When a version ripens that marks cover.
-use Rattle.ele_model.proofs.Basics.{◌≡◌, ℕ, Bool, false, Option, Some, ap, sym, subst, ◌∙◌, IfSome, AllByRecursion, all-split, option_and_then, refl}
-use Rattle.ele_model.proofs.Words.{IsLawful, FileView, Policy, HasParts, World, beside, cover_by, file_view, is_open, ripe_in, ripe_past}
+use Rattle.ele_model.proofs.Basics.{◌≡◌, ℕ, Bool, false, Option, Some, ap, sym, ◌∙◌, IfSome, AllByRecursion, all-split, option_and_then, refl}
+use Rattle.ele_model.proofs.Words.{IsLawful, Policy, HasParts, World, beside, cover_by, file_view, is_open, ripe_in, ripe_past}
 use Rattle.ele_policy.specs.RipeCase.{ripe_by}
 use Rattle.ele_model.specs.Due.{ripe_of}
 use Rattle.ele_model.proofs.Readers.{numbers_are}

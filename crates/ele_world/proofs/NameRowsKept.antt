@@ -1,11 +1,11 @@
 -- Name rows after an event: those before, in their order, except those of a dropped file, and then new ones.
-use Rattle.ele_model.proofs.Basics.{rules, nat_tests, arith, ◌≡◌, ℕ, ◌<◌, true, List, [], ◌∷◌, ◌++◌, None, refl, inl, filter, list_any, AllByRecursion, AllLater, update_first, remove_first, all-push, all-weaker, filter-all, filter-same_all, list_any-append, list_any-update_first}
-use Rattle.ele_model.proofs.Words.{World, HasParts, Names, Files, DropIdle, EndDraft, ShutHandle, Take, Append, after_change, after_changes, MakeFile, SetFilePolicy, Revive, Policy, numbered_on, set_policy, IsThere, IsNameRow, born_row, dies, is_file, is_live_name, next_of, plan, step}
+use Rattle.ele_model.proofs.Basics.{rules, nat_tests, arith, ◌≡◌, ℕ, ◌+◌, ◌<◌, true, List, [], ◌∷◌, ◌++◌, None, refl, inl, filter, list_any, AllByRecursion, AllLater, update_first, remove_first, all-push, all-weaker, filter-all, filter-same_all, list_any-append, list_any-update_first}
+use Rattle.ele_model.proofs.Words.{World, HasParts, Names, Files, DropIdle, EndDraft, ShutHandle, Take, Append, after_change, after_changes, MakeFile, SetFilePolicy, Revive, Policy, numbered_on, set_policy, IsThere, IsNameRow, born_row, dies, is_file, is_live_name, next_of, plan, step, cells_by, content_of, default_of, save_new_plan, Cell}
 use Rattle.ele_world.specs.NameRowsStay.{AreStillRows, is_there}
 use Rattle.ele_model.proofs.Dropped.{dropped, stays_named}
 use Rattle.ele_model.proofs.PlanOutcomes.{AfterAll, in_all}
 use Rattle.ele_model.proofs.Rising.{removed_any}
-use Rattle.ele_world.proofs.Words.{Event, Close, CleanOne, Revert, Read, NameRow, FileRow, Target, File}
+use Rattle.ele_world.proofs.Words.{Event, Close, Abandon, CleanOne, Save, Revert, Restore, Read, NameRow, FileRow, Target, File}
 
 module _ (now : ℕ) where
   unchanged : (rows : List NameRow) → AreStillRows now rows rows
@@ -70,8 +70,18 @@ module _ (w : World) (k : HasParts w) where
   numbered : (v : World) (file : ℕ) → v.files ≡ update_first (is_file file) numbered_on w.files → AreStillRows w.now w.names v.names → Still v
   numbered v file = changed v file numbered_on (λ row. refl)
 
-  revived : (directory : ℕ) (name : List ℕ) (file : ℕ) → Still (after_change w (Revive directory name file))
-  revived directory name file = numbered (after_change w (Revive directory name file)) file refl (born w.now w.names w.names (born_row directory name (File file) w.now) refl refl (unchanged w.now w.names))
+  versioned : (file : ℕ) (cells : List Cell) → Still (after_change w (Append file w.now cells))
+  versioned file cells = numbered (after_change w (Append file w.now cells)) file refl (unchanged w.now w.names)
+
+  revived : (directory : ℕ) (name : List ℕ) (file number : ℕ) → Still (after_change w (Revive directory name file number))
+  revived directory name file number = numbered (after_change w (Revive directory name file number)) file refl (born w.now w.names w.names (born_row directory name (File file) w.now) refl refl (unchanged w.now w.names))
+
+  -- if one is made with two versions
+  saved_new : (at : ℕ × List ℕ) (bytes : List ℕ) → AfterAll w (λ answer. Still (answer.1)) (save_new_plan w at bytes)
+  saved_new at bytes = λ files names versions.
+      let id = w.made.files + 1 in
+      let v : World = after_changes w (MakeFile at.0 at.1 id (default_of w.directories at.0) ∷ Append id w.now (cells_by 2 bytes) ∷ []) in
+      kept v (more_there w.files v.files w.names (λ other there. grind (arith, nat_tests, list_any-update_first, list_any-append)) (all_there w k)) (born w.now w.names w.names (born_row at.0 at.1 (File id) w.now) refl refl (unchanged w.now w.names))
 
   put : (file : ℕ) (policy : Policy) → Still (after_change w (SetFilePolicy file policy))
   put file policy = changed (after_change w (SetFilePolicy file policy)) file (set_policy policy) (λ row. refl) refl (unchanged w.now w.names)
@@ -99,7 +109,13 @@ module _ (w : World) (k : HasParts w) where
     ),
   )
   still CleanOne = (λ none. same w refl (unchanged w.now w.names), λ key first. drops (after_change w (Take key.file key.number)) key.file refl refl)
-  still (Revert path number) = λ file found row meant drafts versions. numbered (after_change w (Append file w.now row.cells)) file refl (unchanged w.now w.names)
+  still (Abandon handle) = λ file writes. (λ other. shut handle, λ last. drops (after_change (after_change w (ShutHandle handle)) (EndDraft file)) file refl refl)
+  still (Save path bytes) = λ at found standing stood fits. (λ none. saved_new at bytes, λ file is drafts versions. versioned file (cells_by (next_of w.files file) bytes))
+  still (Revert path number) = λ file found row meant drafts versions. versioned file row.cells
+  still (Restore path moment) = λ row was at found standing stood. (
+    λ none. (λ live. saved_new at (content_of row.cells), λ nameless drafts names versions. revived at.0 at.1 row.file row.number),
+    λ file is. (λ own drafts versions. versioned file row.cells, λ other drafts versions. versioned file (cells_by (next_of w.files file) (content_of row.cells))),
+  )
   still (Read source) = grind (arith, nat_tests, same, unchanged)
   still event = search (rules, made, revived, put, same, numbered, born, died, unchanged)
 

@@ -55,7 +55,7 @@ module _ (gone : ℕ → ℕ → Bool) (dropped : ℕ → Bool) (u v : World) (b
     unmade : next_of v.files id ≡ 0
     unmade = grind (arith, nat_tests, next_of-given v.made.files v.made.versions v.files id (b.formed.holds Files).each)
 
-    fresh : dropped id ≡ false
+    pub fresh : dropped id ≡ false
     fresh = new_there gone dropped u v b id unmade
 
     -- no version of it is held

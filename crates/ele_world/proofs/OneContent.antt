@@ -1,25 +1,51 @@
 -- A place has one content, after each event and so in every run.
-use Rattle.ele_model.proofs.Basics.{nat_tests, arith, ◌≡◌, ℕ, ◌<◌, ◌≤◌, ◌==◌, length, Bool, true, false, List, [], ◌∷◌, Some, refl, sym, AllByRecursion, update_first, inr, slice_get, all-found, found_passes, find-update_other}
-use Rattle.ele_model.proofs.Words.{World, IsEvent, Cell, HasParts, Drafts, Versions, WriteDraft, TruncateDraft, after_change, AreWrittenBy, IsContent, content_of, changed_by, fitted_by, is_draft, next_of, plan, run_of, step}
-use Rattle.ele_world.proofs.Words.{Event, Write, Truncate, DraftRow, Reads, Draft, Version}
+use Rattle.ele_model.proofs.Basics.{nat_tests, arith, ◌≡◌, ℕ, ◌+◌, ◌-◌, ◌<◌, ◌≤◌, ◌==◌, ◌∙◌, ◌⊎◌, length, Bool, true, false, List, [], ◌∷◌, Some, refl, subst, sym, AllByRecursion, update_first, inl, inr, slice_get, all-found, all-none, found_passes, find-insert_before, find-update_other, not_found, option_map_or}
+use Rattle.ele_model.proofs.Words.{World, IsEvent, Cell, Policy, HasParts, Drafts, Versions, Append, MakeFile, Revive, WriteDraft, TruncateDraft, after_change, AreWrittenBy, IsContent, cells_by, content_of, changed_by, default_of, ended_at, fitted_by, has_draft, is_draft, is_version, is_version_after, next_of, next_version, plan, run_of, save_new_plan, step, version_cells, with_end, with_file, with_name, with_version}
+use Rattle.ele_world.proofs.Words.{Event, Save, Restore, Write, Truncate, DraftRow, VersionRow, Reads, Draft, Version, File}
 use Rattle.ele_world.specs.OneContent.{file_read, Agree, HasOneContent}
 use Rattle.ele_lists.proofs.Alls.{all-got}
 use Rattle.ele_model.specs.Step.{cells_read}
-use Rattle.ele_model.proofs.Elements.{find-updated}
+use Rattle.ele_model.proofs.Allowed.{allowed}
+use Rattle.ele_model.proofs.Created.{made_next, undrafted_yet}
+use Rattle.ele_model.proofs.Elements.{find-update_still, find-updated}
+use Rattle.ele_model.proofs.Keeps.{event_keeps}
+use Rattle.ele_model.proofs.May.{MayPlan}
+use Rattle.ele_model.proofs.Meant.{IsMeant, own_is, then_is}
+use Rattle.ele_model.proofs.NextVersion.{new_found}
 use Rattle.ele_model.proofs.KeptDrafts.{same_file}
-use Rattle.ele_model.proofs.PlanOutcomes.{in_all}
+use Rattle.ele_model.proofs.PlanOutcomes.{AfterAll, in_all}
 use Rattle.ele_world.proofs.SlotsKept.{IsRewritten, cell_written, cell_fitted}
 use Rattle.ele_model.proofs.StepKeeps.{step_keeps}
-use Rattle.ele_world.proofs.CellsStay.{edits, carries}
+use Rattle.ele_world.proofs.CellsStay.{AllRead, edits, carries, carries_by, grown, meant, numbered}
 
--- ---- an event that writes none
+-- ---- what writes none
+
+-- what is true of all contents, if it is true of none, is true after
+abbrev Carries : World → World → Type 1
+Carries w v = (P : ℕ → List Cell → Type 0) (none : (file : ℕ) → P file []) → AllRead P none w → AllRead P none v
 
 -- once for each of two
+others_by : (w v : World) → Carries w v → HasOneContent w → HasOneContent v
+others_by w v carry have one other same =
+    let first = λ (before : Reads). carry (λ file cells. file ≡ file_read before → Agree cells (cells_read w before)) (λ file its slot cell twin found. absurd cc) (λ read its. have read before its) in
+    carry (λ file cells. file_read one ≡ file → Agree (cells_read v one) cells) (λ file its slot cell twin found here. absurd cc) (λ before its. first before one its) other same
+
 others : (w : World) (event : Event) → HasParts w → edits event ≡ false → HasOneContent w → HasOneContent ((step w event).1)
-others w event k not_edits have one other same =
-    let after = (step w event).1 in
-    let first = λ (before : Reads). carries (λ file cells. file ≡ file_read before → Agree cells (cells_read w before)) (λ file its slot cell twin found. absurd cc) w event k not_edits (λ read its. have read before its) in
-    carries (λ file cells. file_read one ≡ file → Agree (cells_read after one) cells) (λ file its slot cell twin found here. absurd cc) w event k not_edits (λ before its. first before one its) other same
+others w event k not_edits = others_by w ((step w event).1) (λ P none. carries P none w event k not_edits)
+
+-- a version again, of the same file
+again : (w : World) (file : ℕ) (row : VersionRow) → HasParts w → IsMeant w.versions file row → HasOneContent w → HasOneContent (after_change w (Append file w.now row.cells))
+again w file row k is = others_by w (after_change w (Append file w.now row.cells)) (λ P none. carries_by P none w (after_change w (Append file w.now row.cells)) k (λ rows. grown P none w file w.now row.cells (meant P none w file row is rows) rows))
+
+revived : (w : World) (directory : ℕ) (name : List ℕ) (file number : ℕ) → HasParts w → HasOneContent w → HasOneContent (after_change w (Revive directory name file number))
+revived w directory name file number k =
+    let v : World = after_change w (Revive directory name file number) in
+    others_by w v (λ P none. carries_by P none w v k (λ rows. grown P none (with_name w directory name (File file)) file w.now (version_cells w file number) (numbered P none w file number rows) rows))
+
+made : (w : World) (directory : ℕ) (name : List ℕ) (id : ℕ) (policy : Policy) → HasParts w → HasOneContent w → HasOneContent (after_change w (MakeFile directory name id policy))
+made w directory name id policy k =
+    let v : World = after_change w (MakeFile directory name id policy) in
+    others_by w v (λ P none. carries_by P none w v k (λ rows. grown P none (with_name (with_file w id policy) directory name (File id)) id w.now [] (none id) rows))
 
 -- ---- a write and a truncate
 
@@ -58,9 +84,90 @@ module _ (w : World) (k : HasParts w) (have : HasOneContent w) where
     by row is slot cell true same = rw same (λ found. inr found)
     by row is slot cell false other = rw other (cell_fitted (next_of w.files file) size row.cells slot cell is.slots)
 
+-- ---- bytes are saved
+
+module _ (w : World) (k : HasParts w) (have : HasOneContent w) (file opened : ℕ) (bytes : List ℕ) (undrafted : has_draft w file ≡ false) where
+  abbrev next : ℕ
+  next = next_of w.files file
+
+  abbrev cells : List Cell
+  cells = cells_by next bytes
+
+  abbrev saved : World
+  saved = with_version w file opened cells
+
+  -- each other content is as it was
+  still : (read : Reads) → (cells_read saved read ≡ cells_read w read) ⊎ ((file_read read ≡ file) × (cells_read saved read ≡ cells))
+  still (Draft of) = inl refl
+  still (Version of number) = by (is_version of number (next_version w file opened cells)) refl where
+    by : (b : Bool) → is_version of number (next_version w file opened cells) ≡ b → (cells_read saved (Version of number) ≡ cells_read w (Version of number)) ⊎ ((of ≡ file) × (cells_read saved (Version of number) ≡ cells))
+    by true is =
+        let own : of ≡ file = grind (arith, nat_tests, is) in
+        let its : number ≡ next = grind (arith, nat_tests, is) in
+        inr (own, rw (own, its, new_found w file (k.holds Versions).each opened cells) refl)
+    by false other = inl (rw (find-insert_before (is_version_after file next) (is_version of number) (next_version w file opened cells) (with_end w file) other)
+        (find-update_still (is_version file (next - 1)) (is_version of number) (λ o. option_map_or (λ row. row.cells) o []) (ended_at w.now) w.versions (λ row. refl) (λ row. refl)))
+
+  -- no other has a slot that this version wrote
+  earlier : (read : Reads) (slot : ℕ) (cell : Cell) → file_read read ≡ file → slice_get (cells_read w read) slot ≡ Some cell → cell.writer < next
+  earlier (Draft of) slot cell same found = absurd (grind (arith, nat_tests, same, found, undrafted, not_found (is_draft file) w.drafts, all-none (is_draft file) w.drafts undrafted))
+  earlier (Version of number) slot cell same found = rw (← same) (by_earlier w k have of number slot cell found)
+
+  own : (slot : ℕ) (cell : Cell) → slice_get cells slot ≡ Some cell → cell.writer ≡ next
+  own slot cell found = by (cell_written next 0 bytes [] slot cell refl found) where
+    by : IsRewritten next [] slot cell → cell.writer ≡ next
+    by (inl is) = is
+    by (inr was) = absurd cc
+
+  abbrev As : Reads → Type 0
+  As read = (cells_read saved read ≡ cells_read w read) ⊎ ((file_read read ≡ file) × (cells_read saved read ≡ cells))
+
+  save_stays : HasOneContent saved
+  save_stays one other same slot cell twin found there writers = by (still one) (still other) where
+    by : As one → As other → cell.bytes ≡ twin.bytes
+    by (inl a) (inl b) = have one other same slot cell twin (rw (← a) found) (rw (← b) there) writers
+    by (inl a) (inr b) =
+        let less = earlier one slot cell (same ∙ b.0) (rw (← a) found) in
+        let mine = own slot twin (rw (← b.1) there) in
+        absurd (omega (arith, less, mine, writers))
+    by (inr a) (inl b) =
+        let less = earlier other slot twin (sym same ∙ a.0) (rw (← b) there) in
+        let mine = own slot cell (rw (← a.1) found) in
+        absurd (omega (arith, less, mine, writers))
+    by (inr a) (inr b) = grind (arith, found, there, a.1, b.1)
+
+-- a new file, and then its second version
+saved_new : (event : Event) (w : World) (at : ℕ × List ℕ) (bytes : List ℕ) → IsEvent event → MayPlan event w (save_new_plan w at bytes) → HasParts w → HasOneContent w → AfterAll w (λ answer. HasOneContent (answer.1)) (save_new_plan w at bytes)
+saved_new event w at bytes is may k have = λ files names versions.
+    let id = w.made.files + 1 in
+    let policy = default_of w.directories at.0 in
+    let c = MakeFile at.0 at.1 id policy in
+    let v : World = after_change w c in
+    subst (λ n. HasOneContent (with_version v id w.now (cells_by n bytes))) (made_next w at.0 at.1 policy k)
+    (save_stays v (event_keeps event w w c is (may files names versions).0 k) (made w at.0 at.1 id policy k have) id w.now bytes (undrafted_yet w k))
+
+restored : (w : World) (path : List (List ℕ)) (moment : ℕ) → HasParts w → HasOneContent w → AfterAll w (λ answer. HasOneContent (answer.1)) (plan w (Restore path moment))
+restored w path moment k have = λ row was at found standing stood.
+    let may = allowed w (Restore path moment) k row was at found standing stood in
+    let is = then_is w path moment row was in (
+      λ none. (
+        λ live. saved_new (Restore path moment) w at (content_of row.cells) tt ((may.0 none).0 live) k have,
+        λ nameless drafts names versions. revived w at.0 at.1 row.file row.number k have,
+      ),
+      λ file its. (
+        λ own drafts versions. again w file row k (own_is w file row own is) have,
+        λ other drafts versions. save_stays w k have file w.now (content_of row.cells) drafts,
+      ),
+    )
+
 -- ---- each event
 
 pub one_content_stays : (w : World) (event : Event) → HasParts w → HasOneContent w → HasOneContent ((step w event).1)
+one_content_stays w (Save path bytes) k have = in_all w (λ answer. HasOneContent (answer.1)) (plan w (Save path bytes)) (λ refusal. have) (λ at found standing stood fits. (
+  λ none. saved_new (Save path bytes) w at bytes tt ((allowed w (Save path bytes) k at found standing stood fits).0 none) k have,
+  λ file is drafts versions. save_stays w k have file w.now bytes drafts,
+))
+one_content_stays w (Restore path moment) k have = in_all w (λ answer. HasOneContent (answer.1)) (plan w (Restore path moment)) (λ refusal. have) (restored w path moment k have)
 one_content_stays w (Write handle offset bytes) k have = in_all w (λ answer. HasOneContent (answer.1)) (plan w (Write handle offset bytes)) (λ refusal. have) (λ file named. (λ nothing. have, λ some long. lays w k have file offset bytes))
 one_content_stays w (Truncate handle size) k have = in_all w (λ answer. HasOneContent (answer.1)) (plan w (Truncate handle size)) (λ refusal. have) (λ file named long. fits w k have file size)
 one_content_stays w event k have = others w event k refl have

@@ -1,8 +1,8 @@
 -- The live names are one tree from the root, after each event and so in every run, and no directory is in itself.
 use Rattle.ele_model.proofs.Basics.{rules, nat_tests, arith, ◌≡◌, ℕ, suc, zero, ◌+◌, ◌==◌, ◌&&◌, Bool, true, false, List, [], ◌∷◌, ◌++◌, Some, None, Ok, refl, find, filter, AllByRecursion, list_any, update_first, all-both, all-filter, all-found, all-none, all-push, all-update_first, all-weaker, any-found, found_passes, list_any-append, list_any-filter, list_any-update_found, last_has}
-use Rattle.ele_model.proofs.Words.{World, IsEvent, ShutHandle, EndDraft, Take, HasParts, DropIdle, after_change, born_row, dies, is_live_directory, is_live_in, is_live_name, is_target_directory, last_target, is_named, live_target, parent_now, plan, root, run_of, step, walk, walk_now}
+use Rattle.ele_model.proofs.Words.{World, IsEvent, ShutHandle, EndDraft, Take, HasParts, DropIdle, after_change, born_row, content_of, dies, is_live_directory, is_live_in, is_live_name, is_target_directory, last_target, is_named, live_target, parent_now, plan, root, run_of, save_new_plan, step, walk, walk_now}
 use Rattle.ele_model.specs.declared.event.Event.TheVariants.{RemoveDir}
-use Rattle.ele_world.proofs.Words.{Event, MakeDir, Create, Link, Unlink, Undelete, Rename, Close, CleanOne, Read, NameRow, Target, File, Directory}
+use Rattle.ele_world.proofs.Words.{Event, MakeDir, Create, Link, Unlink, Undelete, Rename, Close, Abandon, Save, Restore, CleanOne, Read, NameRow, Target, File, Directory}
 use Rattle.ele_world.specs.OneTree.{Hangs, IsOneTree, hangs_by}
 use Rattle.ele_lists.proofs.Cuts.{any-found as first_passing}
 use Rattle.ele_model.proofs.Dropped.{dropped, stays_named}
@@ -158,20 +158,33 @@ lost_other rows directory name lost all h = grind (arith, nat_tests, last_has (i
 renamed : (w : World) (from to : List (List ℕ)) → HasParts w → IsOneTree w.names → AfterAll w (λ answer. IsOneTree (answer.1).names) (plan w (Rename from to))
 renamed w from to k tree = λ old found moved leads at home apart free room. moves w to tree old at moved (last_names w.names from old moved found leads) (parent_hangs w.names to at home) (grind (arith, nat_tests, rename_leads w from to k))
 
+-- a file has a name more
+named_under : (w : World) (path : List (List ℕ)) (at : ℕ × List ℕ) (file : ℕ) → parent_now w.names path ≡ Ok at → IsOneTree w.names → IsOneTree (w.names ++ born_row at.0 at.1 (File file) w.now ∷ [])
+named_under w path at file found = more w.names (born_row at.0 at.1 (File file) w.now) refl (parent_hangs w.names path at found)
+
+file_comes : (w : World) (path : List (List ℕ)) (at : ℕ × List ℕ) (bytes : List ℕ) → parent_now w.names path ≡ Ok at → IsOneTree w.names → AfterAll w (λ answer. IsOneTree (answer.1).names) (save_new_plan w at bytes)
+file_comes w path at bytes found tree = λ files names versions. named_under w path at (w.made.files + 1) found tree
+
 stays_one : (w : World) (event : Event) → HasParts w → IsOneTree w.names → AfterAll w (λ answer. IsOneTree (answer.1).names) (plan w event)
 stays_one w (Rename from to) k tree = renamed w from to k tree
 stays_one w (Close handle) k tree = λ read found. (λ none. tree, λ file its. (λ other. tree, λ last. (λ none. tree, λ draft drafted. (λ changed. tree, λ same. dropped_too (after_change (after_change w (ShutHandle handle)) (EndDraft file)) file tree))))
+stays_one w (Abandon handle) k tree = λ file its. (λ other. tree, λ last. dropped_too (after_change (after_change w (ShutHandle handle)) (EndDraft file)) file tree)
 stays_one w CleanOne k tree = (λ none. tree, λ key first. dropped_too (after_change w (Take key.file key.number)) key.file tree)
 stays_one w (Read source) k tree = grind (arith, nat_tests, tree)
 stays_one w (RemoveDir path) k tree = λ at found directory leads empty. directory_ends w.now w.names at.0 at.1 directory (last_leads w.names path at directory found leads) empty tree
 stays_one w (Unlink path) k tree = λ at found file leads. file_ends w.now w.names at.0 at.1 file (last_names w.names path at (File file) found (file_of (walk_now w.names path) file leads)) tree
+stays_one w (Save path bytes) k tree = λ at found standing stood fits. (λ none. file_comes w path at bytes found tree, λ file is drafts versions. tree)
+stays_one w (Restore path moment) k tree = λ row was at found standing stood. (
+  λ none. (λ live. file_comes w path at (content_of row.cells) found tree, λ nameless drafts names versions. named_under w path at row.file found tree),
+  λ file is. (λ own drafts versions. tree, λ other drafts versions. tree),
+)
 stays_one w (Undelete path) k tree = λ at found free lost last may. (
   λ named room. more w.names (born_row at.0 at.1 lost w.now) (lost_other w.names at.0 at.1 lost tree.top last) (parent_hangs w.names path at found) tree,
-  λ file dead drafts room versions. more w.names (born_row at.0 at.1 (File file) w.now) refl (parent_hangs w.names path at found) tree,
+  λ file dead drafts room versions. named_under w path at file found tree,
 )
 stays_one w (MakeDir path) k tree = λ at found free few room. more w.names (born_row at.0 at.1 (Directory (w.made.directories + 1)) w.now) (grind (arith, nat_tests)) (parent_hangs w.names path at found) tree
-stays_one w (Create path) k tree = λ at found free few room versions. more w.names (born_row at.0 at.1 (File (w.made.files + 1)) w.now) refl (parent_hangs w.names path at found) tree
-stays_one w (Link from to) k tree = λ file leads at found free room. more w.names (born_row at.0 at.1 (File file) w.now) refl (parent_hangs w.names to at found) tree
+stays_one w (Create path) k tree = λ at found free few room versions. named_under w path at (w.made.files + 1) found tree
+stays_one w (Link from to) k tree = λ file leads at found free room. named_under w to at file found tree
 stays_one w event k tree = search (rules, tree)
 
 pub one_tree : (w : World) (event : Event) → HasParts w → IsOneTree w.names → IsOneTree ((step w event).1).names

@@ -1,7 +1,7 @@
 -- The names that an event doesn't name keep their meaning.
 use Rattle.ele_model.proofs.Basics.{nat_tests, arith, ◌≡◌, ℕ, false, List, [], ◌∷◌, ◌++◌, refl, ap, ◌∙◌, filter, AllByRecursion, all-none, find-append}
 use Rattle.ele_model.proofs.Words.{World, DropIdle, EndDraft, ShutHandle, Take, after_change, is_live_name, is_live_name_of, live_target, plan}
-use Rattle.ele_world.proofs.Words.{Event, Close, CleanOne, Read, NameRow}
+use Rattle.ele_world.proofs.Words.{Event, Close, Abandon, CleanOne, Read, NameRow}
 use Rattle.ele_world.specs.OtherNamesStay.{is_named_by, OtherNamesStay}
 use Rattle.ele_model.proofs.Dropped.{dropped, stays_named}
 use Rattle.ele_world.proofs.NameEnds.{other_stays}
@@ -25,6 +25,7 @@ module _ (w : World) (d : ℕ) (n : List ℕ) where
 
   others : (event : Event) → is_named_by w event d n ≡ false → AfterAll w (λ answer. Stands (answer.1)) (plan w event)
   others (Close handle) other = λ read found. (λ none. refl, λ file writes. (λ shared. refl, λ last. (λ none. refl, λ draft drafted. (λ changed. refl, λ same. drops (after_change (after_change w (ShutHandle handle)) (EndDraft file)) file refl))))
+  others (Abandon handle) other = λ file writes. (λ shared. refl, λ last. drops (after_change (after_change w (ShutHandle handle)) (EndDraft file)) file refl)
   others CleanOne other = (λ none. refl, λ key first. drops (after_change w (Take key.file key.number)) key.file refl)
   others (Read source) other = grind (arith, nat_tests)
   others event other = grind (arith, nat_tests, born, other_stays)

@@ -1,7 +1,7 @@
 -- What name rows say of a moment before now stays so after an event, but for those of a file that goes.
 use Rattle.ele_model.proofs.Basics.{nat_tests, arith, ◌≡◌, ℕ, ◌<◌, Bool, true, false, List, [], ◌∷◌, ◌++◌, ◌&&◌, Option, Some, None, refl, ap, sym, ◌∙◌, ◌⊎◌, inl, inr, find, filter, option_map, AllByRecursion, AllLater, update_first, remove_first, list_any, find-append, not_found, all-not_found, all-filter, all-weaker, bytes_eq-Decides}
 use Rattle.ele_model.proofs.Words.{World, HasParts, Files, Names, AreApart, DropIdle, EndDraft, ShutHandle, Take, after_change, without_file, is_file, is_live_name, is_live_name_of, is_named, covers, target_at, dies, plan, step}
-use Rattle.ele_world.proofs.Words.{Event, Close, CleanOne, Read, NameRow, FileRow, Target, File}
+use Rattle.ele_world.proofs.Words.{Event, Close, Abandon, CleanOne, Read, NameRow, FileRow, Target, File}
 use Rattle.ele_world.specs.PastStays.{StoodAsBefore}
 use Rattle.ele_model.proofs.Dropped.{IsIdle, dropped, stays_named}
 use Rattle.ele_model.proofs.PlanOutcomes.{AfterAll, in_all}
@@ -72,6 +72,7 @@ module _ (w : World) (moment d : ℕ) (n : List ℕ) (k : HasParts w) (before : 
 
   past : (event : Event) → AfterAll w (λ answer. Stood (answer.1)) (plan w event)
   past (Close handle) = λ read found. (λ none. inl refl, λ file writes. (λ other. inl refl, λ last. (λ none. inl refl, λ draft drafted. (λ changed. inl refl, λ same. drops (after_change (after_change w (ShutHandle handle)) (EndDraft file)) file refl refl))))
+  past (Abandon handle) = λ file writes. (λ other. inl refl, λ last. drops (after_change (after_change w (ShutHandle handle)) (EndDraft file)) file refl refl)
   past CleanOne = (λ none. inl refl, λ key first. drops (after_change w (Take key.file key.number)) key.file refl refl)
   past (Read source) = grind (arith, nat_tests)
   past event = grind (arith, nat_tests, born moment d n, died moment d n)

@@ -1,7 +1,7 @@
 -- What a path reads at a moment before now is read there after an event too, or nothing is.
 use Rattle.ele_model.proofs.Basics.{rules, nat_tests, arith, ◌≡◌, ◌⊎◌, inl, inr, ℕ, ◌-◌, ◌<◌, ◌≤◌, true, false, Bool, cond, option_map_or, List, [], ◌∷◌, Option, Some, None, Result, Ok, Err, refl, ap, sym, ◌∙◌, find, AllByRecursion, AllLater, all-found, all-insert_before, all-remove_first, all-update_first, all-weaker, found_passes, false≢true, nat_lt}
 use Rattle.ele_model.proofs.Words.{World, IsEvent, Cell, HasParts, ArePlaced, Versions, EndDraft, ShutHandle, Take, after_change, content_of, ended_at, had_closed, had_life, is_held, is_live, is_version, is_version_after, last_number, next_of, next_version, plan, root, step, target_at, version_living, with_end, with_version, file_at, TaggedPath, version_at, version_found, held_or_forgotten}
-use Rattle.ele_world.proofs.Words.{Event, Close, CleanOne, Read, NameRow, Refusal, Target, File, Directory, VersionRow, NoEntry, Forgotten}
+use Rattle.ele_world.proofs.Words.{Event, Close, Abandon, CleanOne, Read, NameRow, Refusal, Target, File, Directory, VersionRow, NoEntry, Forgotten}
 use Rattle.ele_model.specs.declared.reply.Reply.TheVariants.{Bytes, Refused}
 use Rattle.ele_model.specs.Change.{ended_if_nameless}
 use Rattle.ele_world.specs.PastStays.{StoodAsBefore}
@@ -61,6 +61,7 @@ module _ (w : World) (k : HasParts w) where
       ),
     ),
   )
+  comes (Abandon handle) = λ file writes. (λ other. old, λ last. rw (dropped_versions (after_change (after_change w (ShutHandle handle)) (EndDraft file)) file) old)
   comes CleanOne = (λ none. old, λ key first. rw (dropped_versions (after_change w (Take key.file key.number)) key.file) (all-remove_first (is_version key.file key.number) IsOldOrNew w.versions old))
   comes (Read source) = grind (arith, nat_tests, old)
   comes event = search (rules, old, nameless, grown)

@@ -45,7 +45,7 @@ fitted_kept content size slot lt unmet = grind (arith, nat_tests, front_kept (51
 abbrev cell_of : List Cell → ℕ → Cell
 cell_of cells slot = record { writer = writer_at cells slot; bytes = slot_bytes (content_of cells) slot }
 
-none_left : (cells : List Cell) → fill_slots 0 cells ≡ true → cells ≡ []
+pub none_left : (cells : List Cell) → fill_slots 0 cells ≡ true → cells ≡ []
 none_left [] fills = refl
 none_left (cell ∷ cells) fills = grind (arith, nat_tests, false≢true)
 

@@ -1,9 +1,9 @@
 -- The words of the laws that proofs here use, in one place, and the types of `ele_model` (its own `Words` can give them out to itself alone).
 pub use Rattle.ele_model.specs.declared.event.Event.{Event}
-pub use Rattle.ele_model.specs.declared.event.Event.TheVariants.{CleanOne, Clock, Close, Create, GroupAdd, GroupDrop, GroupMake, GroupRemove, Link, MakeDir, OpenWrite, Read, Rename, Revert, SetDefault, Tick, Truncate, Undelete, Unlink, Unmark, Write}
+pub use Rattle.ele_model.specs.declared.event.Event.TheVariants.{Abandon, CleanOne, Clock, Close, Create, GroupAdd, GroupDrop, GroupMake, GroupRemove, Link, MakeDir, OpenWrite, Read, Rename, Restore, Revert, Save, SetDefault, Tick, Truncate, Undelete, Unlink, Unmark, Write}
 pub use Rattle.ele_model.specs.declared.event.Source.TheVariants.{Of, Tagged}
 pub use Rattle.ele_model.specs.declared.refusal.Refusal.{Refusal}
-pub use Rattle.ele_model.specs.declared.refusal.Refusal.TheVariants.{Forgotten, NoEntry}
+pub use Rattle.ele_model.specs.declared.refusal.Refusal.TheVariants.{Forgotten, NoEntry, NoHandle}
 pub use Rattle.ele_model.specs.declared.reply.Reply.{Reply}
 pub use Rattle.ele_model.specs.declared.reply.Reply.TheVariants.{Bytes, Done}
 pub use Rattle.ele_model.specs.declared.rows.DeadName.{DeadName}

@@ -1,11 +1,12 @@
 -- Each draft has a handle that writes it, after each event and so in every run.
 use Rattle.ele_model.proofs.Basics.{rules, nat_tests, arith, ◌≡◌, ℕ, ◌+◌, ◌==◌, not, Bool, true, false, List, [], ◌∷◌, ◌++◌, Some, None, Ok, refl, find, AllByRecursion, list_any, update_first, remove_first, insert_before, list_any-append, list_any-remove_first, all-both, all-insert_before, all-not_found, all-remove_first, all-update_first, all-weaker, filter-passes, not-true, remove_first-key}
 use Rattle.ele_model.proofs.Words.{World, IsEvent, HasParts, Drafts, DropIdle, EndDraft, ShutHandle, Take, after_change, draft_read, is_draft, is_draft_after, is_handle, is_writer, new_draft, plan, reads_by, run_of, step, writes}
-use Rattle.ele_world.proofs.Words.{Event, Close, CleanOne, Read, OpenWrite, DraftRow, HandleRow, Reads, Draft}
+use Rattle.ele_world.proofs.Words.{Event, Close, Abandon, CleanOne, Read, OpenWrite, DraftRow, HandleRow, Reads, Draft}
 use Rattle.ele_world.specs.DraftsWritten.{HaveWriters}
 use Rattle.ele_model.proofs.Dropped.{dropped}
 use Rattle.ele_model.proofs.KeptDrafts.{same_file}
 use Rattle.ele_model.proofs.PlanOutcomes.{AfterAll, in_all}
+use Rattle.ele_model.proofs.Readers.{reads_draft}
 use Rattle.ele_model.proofs.StepKeeps.{step_keeps}
 
 abbrev Written : List HandleRow → DraftRow → Type 0
@@ -73,6 +74,11 @@ written w (Close handle) k have = λ read found. (
     ),
   ),
 )
+written w (Abandon handle) k have = λ file writes.
+    let read = reads_draft w handle file writes in (
+      λ other. shared w k have handle (Draft file) read file refl other,
+      λ last. dropped_too (after_change (after_change w (ShutHandle handle)) (EndDraft file)) file (ended w k have handle (Draft file) read file refl),
+    )
 written w CleanOne k have = (λ none. have, λ key first. dropped_too (after_change w (Take key.file key.number)) key.file have)
 written w (OpenWrite path) k have = λ file named handles. (λ one. more w.handles (record { number = w.made.handles + 1; reads = Draft file }) w.drafts have, λ none room. begun w file (w.made.handles + 1) have)
 written w (Read source) k have = grind (arith, nat_tests, have)

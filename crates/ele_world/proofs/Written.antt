@@ -1,7 +1,7 @@
 -- What handles read: a draft that begins or is written, or the version that was meant.
 use Rattle.ele_model.proofs.Basics.{nat_tests, arith, ◌≡◌, ℕ, ◌+◌, ◌==◌, Bool, true, false, List, [], ◌∷◌, ◌++◌, length, Ok, refl, all-found, all-none, all-weaker, find-append, find-inserted, find-remove_first, find-update_other, list_any, not_found, update_first, insert_before, remove_first, take_all, append-nil, rules}
 use Rattle.ele_model.proofs.Words.{World, HasParts, IsHandle, Handles, ShutHandle, WriteDraft, TruncateDraft, DropIdle, EndDraft, Take, after_change, changed_by, content_of, file_by, file_now, fitted_by, has_draft, is_draft, is_draft_after, is_handle, new_draft, next_of, plan, reads_by, TaggedPath, step}
-use Rattle.ele_world.proofs.Words.{Event, Close, Read, DraftRow, HandleRow, Reads, Draft, CleanOne, Done, Write}
+use Rattle.ele_world.proofs.Words.{Event, Close, Abandon, Read, DraftRow, HandleRow, Reads, Draft, CleanOne, Done, Write}
 use Rattle.ele_content.specs.Content.{content_after_write, content_after_truncate}
 use Rattle.ele_content.proofs.Contents.{content_of-written, content_of-truncated}
 use Rattle.ele_lists.proofs.Cuts.{any-found as first_passing}
@@ -22,7 +22,7 @@ use Rattle.ele_model.specs.declared.event.Event.TheVariants as asked
 -- ---- handles
 
 -- a new handle reads what it was opened for
-new_reads : (w : World) (reads : Reads) → HasParts w → reads_by (w.handles ++ record { number = w.made.handles + 1; reads = reads } ∷ []) (w.made.handles + 1) ≡ Ok reads
+pub new_reads : (w : World) (reads : Reads) → HasParts w → reads_by (w.handles ++ record { number = w.made.handles + 1; reads = reads } ∷ []) (w.made.handles + 1) ≡ Ok reads
 new_reads w reads k = grind (arith, nat_tests, find-append, k.holds Handles, not_found (is_handle (w.made.handles + 1)) w.handles, all-weaker (IsHandle w.made.handles w.drafts) (λ row. is_handle (w.made.handles + 1) row ≡ false) w.handles)
 
 pub handle_reads : (w : World) (tagged : TaggedPath) (handle : ℕ) → HasParts w → (step w (asked.OpenRead tagged)).0 ≡ told.Handle handle → ReadsMeant w tagged handle ((step w (asked.OpenRead tagged)).1)
@@ -47,6 +47,7 @@ module _ (w : World) (handle : ℕ) (reads : Reads) (its : reads_by w.handles ha
 
   stays : (event : Event) → closes handle event ≡ false → AfterAll w (λ answer. Reading (answer.1)) (plan w event)
   stays (Close other) apart = λ read found. (λ none. shut other apart, λ file writes. (λ shared. shut other apart, λ last. (λ none. shut other apart, λ draft drafted. (λ changed. shut other apart, λ same. dropped_reads (after_change (after_change w (ShutHandle other)) (EndDraft file)) file (shut other apart)))))
+  stays (Abandon other) apart = λ file writes. (λ shared. shut other apart, λ last. dropped_reads (after_change (after_change w (ShutHandle other)) (EndDraft file)) file (shut other apart))
   stays CleanOne apart = (λ none. its, λ key first. dropped_reads (after_change w (Take key.file key.number)) key.file its)
   stays (Read source) apart = grind (arith, nat_tests, its)
   stays event apart = search (rules, its, opened)

@@ -1,7 +1,7 @@
--- A handle reads the same version or draft after any event, until it is closed.
+-- A handle reads the same version or draft after any event, until it is closed or abandoned.
 use Rattle.std.specs.Prelude.{◌≡◌, ℕ, ◌==◌, Bool, false, Ok}
 use Rattle.ele_model.specs.declared.event.Event.{Event}
-use Rattle.ele_model.specs.declared.event.Event.TheVariants.{Close}
+use Rattle.ele_model.specs.declared.event.Event.TheVariants.{Close, Abandon}
 use Rattle.ele_model.specs.declared.rows.Reads.{Reads}
 use Rattle.ele_model.specs.Step.{step}
 use Rattle.ele_model.specs.WellFormed.{IsWellFormed}
@@ -9,6 +9,7 @@ use Rattle.ele_model.specs.World.{World, reads_by}
 
 abbrev pub closes : ℕ → Event → Bool
 closes handle (Close other) = other == handle
+closes handle (Abandon other) = other == handle
 closes handle event = false
 
 abbrev pub HandleStays : Type 0

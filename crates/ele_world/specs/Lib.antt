@@ -48,3 +48,7 @@ pub mod NameRowsStay
 pub mod ChangeKeeps
 pub mod CloseKeeps
 pub mod RevertKeeps
+pub mod SaveReads
+pub mod SaveIsSession
+pub mod RestoreReads
+pub mod AbandonLeaves

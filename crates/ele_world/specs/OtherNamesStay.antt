@@ -2,7 +2,7 @@
 use Rattle.std.specs.Prelude.{◌≡◌, ℕ, ◌==◌, ◌&&◌, ◌||◌, Bool, false, List, Result, Ok, Err}
 use Rattle.std.specs.Str.{bytes_eq}
 use Rattle.ele_model.specs.declared.event.Event.{Event}
-use Rattle.ele_model.specs.declared.event.Event.TheVariants.{MakeDir, RemoveDir, Create, Link, Unlink, Rename, Undelete}
+use Rattle.ele_model.specs.declared.event.Event.TheVariants.{MakeDir, RemoveDir, Create, Link, Unlink, Rename, Undelete, Save, Restore}
 use Rattle.ele_model.specs.declared.refusal.Refusal.{Refusal}
 use Rattle.ele_model.specs.Step.{step}
 use Rattle.ele_model.specs.Walk.{live_target, parent_now}
@@ -22,6 +22,8 @@ is_named_by w (Link from to) directory name = is_home directory name (parent_now
 is_named_by w (Unlink path) directory name = is_home directory name (parent_now w.names path)
 is_named_by w (Rename from to) directory name = is_home directory name (parent_now w.names from) || is_home directory name (parent_now w.names to)
 is_named_by w (Undelete path) directory name = is_home directory name (parent_now w.names path)
+is_named_by w (Save path bytes) directory name = is_home directory name (parent_now w.names path)
+is_named_by w (Restore path moment) directory name = is_home directory name (parent_now w.names path)
 is_named_by w event directory name = false
 
 abbrev pub OtherNamesStay : Type 0

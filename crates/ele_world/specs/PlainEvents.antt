@@ -1,7 +1,7 @@
 -- The events for which it doesn't matter when due versions are cleaned.
 use Rattle.std.specs.Prelude.{Bool, true, false}
 use Rattle.ele_model.specs.declared.event.Event.{Event}
-use Rattle.ele_model.specs.declared.event.Event.TheVariants.{Undelete, Revert, OpenRead, SetPolicy, GroupMake, GroupDrop, GroupAdd, GroupRemove, Mark, Unmark, CleanOne}
+use Rattle.ele_model.specs.declared.event.Event.TheVariants.{Undelete, Revert, Restore, OpenRead, SetPolicy, GroupMake, GroupDrop, GroupAdd, GroupRemove, Mark, Unmark, CleanOne}
 
 abbrev pub is_clean : Event → Bool
 is_clean CleanOne = true
@@ -12,6 +12,7 @@ abbrev pub is_plain : Event → Bool
 is_plain CleanOne = false
 is_plain (Undelete path) = false
 is_plain (Revert path number) = false
+is_plain (Restore path moment) = false
 is_plain (OpenRead tagged) = false
 is_plain (SetPolicy path policy) = false
 is_plain (GroupMake name) = false

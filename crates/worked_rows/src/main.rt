@@ -14,7 +14,7 @@ use std::{fs, io};
 const ROWS: &str = "rows";
 
 /// Scripts under limits of their own: events, files, directories, names, versions, handles, groups, members, marks.
-const LIMITED: [(&str, [u64; 9]); 24] = [
+const LIMITED: [(&str, [u64; 9]); 25] = [
     (
         "first_run",
         [
@@ -67,6 +67,7 @@ const LIMITED: [(&str, [u64; 9]); 24] = [
     ("members_limit", [9, 9, 9, 9, 9, 9, 9, 1, 9]),
     ("marks_limit", [9, 9, 9, 9, 9, 9, 9, 9, 1]),
     ("each_limit_is_one", [99, 1, 1, 1, 99, 1, 1, 1, 1]),
+    ("saves_and_restores_at_limits", [99, 2, 9, 3, 4, 0, 9, 9, 9]),
 ];
 
 /// Scripts under the largest limits whose run explains.

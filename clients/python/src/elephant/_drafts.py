@@ -99,6 +99,27 @@ class Drafts(Questions):
             self._keep_close(handle, bool(version))
             return version or None
 
+    def _abandon_handle(self, handle: int) -> None:
+        with self._lock, self._change as core:
+            core.do(core.library.elephant_abandon, f"handle {handle}", handle)
+            self._keep_abandon(handle)
+
+    def _keep_abandon(self, handle: int) -> None:
+        """Puts the end of a session that was given up into the journal. With the last session of a file, what they wrote is dropped."""
+        line, draft = b"abandon %d" % handle, self._writers.get(handle)
+        if draft is None:
+            self._keep(line)
+            return
+        try:
+            if draft.handles == {handle}:
+                # With a history the lines are those of all drafts.
+                self._flush(draft, line, drops=not self._has_history)
+            else:
+                self._defer(handle, line)
+        finally:
+            if self._failure is None:  # else what the session wrote is still read
+                self._forget_writer(handle, draft)
+
     def _keep_close(self, handle: int, makes_version: bool) -> None:
         """Puts the close of a handle into the journal. The close of the last handle makes the version, and stores what the sessions
         wrote."""
@@ -121,14 +142,15 @@ class Drafts(Questions):
         if not draft.handles:
             del self._drafts[draft.file]
 
-    def _flush(self, draft: Draft, *more: bytes) -> None:
-        """Puts the lines of a draft into the journal that it doesn't have yet, and more lines in the same change."""
+    def _flush(self, draft: Draft, *more: bytes, drops: bool = False) -> None:
+        """Puts the lines of a draft into the journal that it doesn't have yet, and more lines in the same change. `drops`: the draft's
+        lines are dropped instead."""
         lines = draft.lines[:]
         draft.lines.clear()
         if not lines and not more:
             return
         try:
-            self._keep(*lines, *more)
+            self._keep(*(() if drops else lines), *more)
         except JournalError:
             if self._failure is not None:
                 draft.lines[:] = lines

@@ -70,8 +70,8 @@ class _GuardedReplay(Replay):
         if word == b"unlink":
             self._memory.note_end(self.core, rest)
         code = super().command(line)
-        if word == b"undelete" and not code:
-            self._memory.note_return(self.core, rest)
+        if word in (b"undelete", b"restore") and not code:
+            self._memory.note_return(self.core, rest.partition(b" ")[0])
         if word in (b"clock", b"tick"):
             self._memory.gaps.note(self.core.now())
         return code

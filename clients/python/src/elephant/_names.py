@@ -93,6 +93,15 @@ def require_shown(*paths: bytes) -> None:
         raise BadName(f"no folder can show a file of the name {name_of(spelled)!r}, spelled {spelled.decode('ascii', 'replace')}")
 
 
+def is_path_shown(*paths: bytes) -> bool:
+    """Whether a mounted folder can show the last name of the last of a command's paths."""
+    try:
+        require_shown(*paths)
+    except BadName:
+        return False
+    return True
+
+
 def _has_form(path: bytes) -> bool:
     """Whether bytes have a path's form: a slash before each of at most 32 names."""
     first, *names = path.split(b"/")

@@ -3,11 +3,14 @@
 from __future__ import annotations
 
 from binascii import hexlify, unhexlify
+from typing import Optional
 
 from ._core import Core
 from ._errors import Full, HistoryFull, JournalDamaged, JournalError, NoMemory
 
 MOST_PIECE = 4000
+# The most bytes of a line of a script.
+MOST_LINE = 8192
 # Of a number below 2^64.
 MOST_DIGITS = 19
 # Lines that change nothing, and that no journal has.
@@ -23,11 +26,18 @@ def write_lines(handle: int, offset: int, data: bytes) -> list[bytes]:
     ]
 
 
+def save_line(path: bytes, data: bytes) -> Optional[bytes]:
+    """Returns the line that saves a content, or None if it would be too long for a script."""
+    if len(b"save  ") + len(path) + 2 * len(data) > MOST_LINE:
+        return None
+    return b"save %b %b" % (path, hexlify(data) or b"-")
+
+
 class Replay:
     """Runs the changes of a journal in a fresh store, and notes which handles they leave open.
 
-    A program that notes more overrides `remark`, and `open_write`, `write`, `truncate`, `close` and `command`, which return the code of
-    the library.
+    A program that notes more overrides `remark`, and `open_write`, `write`, `truncate`, `close`, `abandon` and `command`, which return the
+    code of the library.
     """
 
     def __init__(self, core: Core) -> None:
@@ -51,6 +61,8 @@ class Replay:
                 code = self.open_write(words[1])
             elif word == b"close" and _are_numbers(words) and len(words) == 1:
                 code = self.close(int(rest))
+            elif word == b"abandon" and _are_numbers(words) and len(words) == 1:
+                code = self.abandon(int(rest))
             elif word == b"truncate" and _are_numbers(words) and len(words) == 2:
                 code = self.truncate(int(words[0]), int(words[1]))
             else:
@@ -90,6 +102,13 @@ class Replay:
         if self.writers.pop(handle, None) is None:
             self.readers.discard(handle)
         code: int = self.library.elephant_close_handle(self._e, handle, self.core.number_at)
+        return code
+
+    def abandon(self, handle: int) -> int:
+        """Gives up a handle that writes."""
+        code: int = self.library.elephant_abandon(self._e, handle)
+        if not code:
+            self.writers.pop(handle, None)
         return code
 
     def command(self, line: bytes) -> int:

@@ -1,4 +1,4 @@
-"""How a content becomes a version: by a file object, or by one call."""
+"""How a content becomes a version: by one call, or by a file object."""
 
 from __future__ import annotations
 
@@ -12,9 +12,9 @@ from ._errors import Drafting, ElephantError, Exists, IsDirectory, NoEntry, TooB
 from ._files import MOST_BYTES, File, Mode, TextFile, mode_of
 from ._library import NO_ENTRY, NOW
 from ._moments import MomentLike
-from ._names import Path, path_of, require_shown, spell
+from ._names import Path, is_path_shown, path_of, require_shown, spell
 from ._parents import Parents
-from ._replay import write_lines
+from ._replay import MOST_PIECE, save_line, write_lines
 
 if TYPE_CHECKING:
     from _typeshed import ReadableBuffer
@@ -101,12 +101,10 @@ class Saves(Parents):
             return _Base(file, version, core.read(path, name, NOW, 0))
 
     def save(self, path: Path, content: ReadableBuffer, *, parents: bool = False) -> int:
-        """Makes the content the file's newest version, whole or not at all, and returns its number. Makes the file if it doesn't exist, and
-        with `parents` the directories above it that are missing.
+        """Makes the content the file's newest version, whole or not at all, and returns its number. Makes the file if it doesn't exist,
+        with an empty version 1 before this one, and with `parents` the directories above it that are missing.
 
-        It makes a version also if the content is that of the version before. Only an empty content makes none of an empty file, and
-        returns the number of the version that the file has. If the save of a new file is refused after the file was made, the file is
-        empty.
+        It makes a version also if the content is that of the version before.
         """
         name, data = spell(path), as_bytes(content)
         _refuse_size(name, len(data))
@@ -114,38 +112,67 @@ class Saves(Parents):
             if parents:
                 self.make_parents(path)
             with self._change as core:
-                return self._save(core, path, name, data, 0, len(data))
+                return self._save(core, path, name, data)
 
     def _commit(self, path: Path, name: bytes, kind: str, base: Optional[_Base], content: bytes) -> int:
-        """Makes a version of a file object's content. If the file has not changed since it was opened, it writes only the difference."""
+        """Makes a version of a file object's content. Of a long one it writes only the difference, if the file has not changed since it was
+        opened."""
         with self._lock, self._change as core:
             if base is not None and kind != "w":
                 row = core.stat(path, name)
-                if (row.id, row.version) == (base.file, base.version):
+                if len(content) > MOST_PIECE and (row.id, row.version) == (base.file, base.version):
                     start, end = _changed(base.content, content)
-                    return self._save(core, path, name, content[start:end], start, len(content))
-            return self._save(core, path, name, content, 0, len(content), must_create=kind == "x")
+                    return self._write(core, path, name, content[start:end], start, len(content))
+            if kind == "x" and self._is_there(core, path, name):
+                raise Exists(path_of(name))
+            if base is None and not content and not self._is_there(core, path, name):
+                return self._make_empty(core, path, name)
+            return self._save(core, path, name, content)
 
-    def _save(self, core: Core, path: Path, name: bytes, data: bytes, offset: int, size: int, must_create: bool = False) -> int:
+    def _make_empty(self, core: Core, path: Path, name: bytes) -> int:
+        """Makes a file, whose empty version 1 is the content."""
+        require_shown(name)
+        core.ask(core.library.elephant_create, path, name, len(name))
+        self._keep(b"create " + name)
+        return 1
+
+    @staticmethod
+    def _is_there(core: Core, path: Path, name: bytes) -> bool:
+        """Whether a path names something. Raises what else refuses it."""
+        code = core.code_at(name)
+        if code not in (0, IsDirectory.number, NO_ENTRY):
+            core.refuse(code, path)
+        return code != NO_ENTRY
+
+    def _save(self, core: Core, path: Path, name: bytes, data: bytes) -> int:
+        """Saves a whole content, by one line of the journal. A content that is too long for a line is written by a session."""
+        if self._makes_hidden(core, name):
+            require_shown(name)
+        line = None if self._journal is None else save_line(name, data)
+        if line is None and self._journal is not None:
+            return self._write(core, path, name, data, 0, len(data))
+        version = core.ask(core.library.elephant_save, path, name, len(name), data, len(data))
+        self._keep(*(() if line is None else (line,)))
+        return version
+
+    @staticmethod
+    def _makes_hidden(core: Core, name: bytes) -> bool:
+        """Whether a save would make a file of a name that no folder can show."""
+        return not is_path_shown(name) and core.code_at(name) == NO_ENTRY
+
+    def _write(self, core: Core, path: Path, name: bytes, data: bytes, offset: int, size: int) -> int:
         """Writes data into the draft of a file, sets its length, and closes it. All of it is one change of the journal."""
-        _refuse_size(name, size)
         if self._drafts:
             self._refuse_draft(core, path, name)
         lines: list[bytes] = []
         try:
-            handle = self._open_or_create(core, path, name, size, lines, must_create)
-            version = self._fill(core, path, name, handle, data, offset, size, lines) if handle else 1
+            version = self._fill(core, path, self._opened(core, path, name, lines), data, offset, size, lines)
         except ElephantError:
             if lines and self._failure is None:
                 self._keep(*lines)
             raise
         self._keep(*lines)
-        if version:
-            return version
-        row = core.stat(path, name)
-        if row.length != size:  # the draft has a session that a line of a store with a history opened
-            raise Drafting(f"{path_of(name)}, and the draft has the content")
-        return int(row.version)
+        return version
 
     def _refuse_draft(self, core: Core, path: Path, name: bytes) -> None:
         if UNKNOWN in self._drafts:
@@ -158,15 +185,12 @@ class Saves(Parents):
             raise Drafting(path_of(name))
 
     @staticmethod
-    def _open_or_create(core: Core, path: Path, name: bytes, size: int, lines: list[bytes], must_create: bool) -> int:
-        """Returns a handle that writes the file, or 0 if the file was made and stays empty."""
-        code = NO_ENTRY if must_create else core.library.elephant_open_write(core.handle, name, len(name), core.number_at)
+    def _opened(core: Core, path: Path, name: bytes, lines: list[bytes]) -> int:
+        """Returns a handle that writes the file, which it makes if there is none."""
+        code = core.library.elephant_open_write(core.handle, name, len(name), core.number_at)
         if code == NO_ENTRY:
-            require_shown(name)
             core.ask(core.library.elephant_create, path, name, len(name))
             lines.append(b"create " + name)
-            if not size:
-                return 0
             code = core.library.elephant_open_write(core.handle, name, len(name), core.number_at)
         if code:
             core.refuse(code, path)
@@ -174,46 +198,35 @@ class Saves(Parents):
         lines.append(b"open write " + name)
         return core.number
 
-    def _fill(
-        self, core: Core, path: Path, name: bytes, handle: int, data: bytes, offset: int, size: int, lines: list[bytes]
-    ) -> int:
-        """Fills a draft and closes it. If that fails, the draft gets the file's content again, so that no version has a part of the
-        data."""
-        library, is_changed = core.library, False
+    def _fill(self, core: Core, path: Path, handle: int, data: bytes, offset: int, size: int, lines: list[bytes]) -> int:
+        """Fills a draft and closes it. If that fails, it gives the draft up, so that no version has a part of the data."""
+        library, opened = core.library, len(lines)
         try:
             if data:
                 core.do(library.elephant_write, path, handle, offset, data, len(data))
-                is_changed = True
                 if self._journal is not None:
                     lines.extend(write_lines(handle, offset, data))
             core.do(library.elephant_truncate, path, handle, size)
-            is_changed = True
             lines.append(b"truncate %d %d" % (handle, size))
             version = core.ask(library.elephant_close_handle, path, handle)
         except ElephantError:
-            self._undo(core, path, name, handle, is_changed, lines)
+            del lines[opened:]
+            self._give_up(core, path, handle, lines)
             raise
         lines.append(b"close %d" % handle)
-        if data and not version:  # the draft has a session that a line of a store with a history opened
-            raise Drafting(f"{path_of(name)}, and the draft has the content")
+        if not version:  # the draft has a session that a line of a store with a history opened
+            raise Drafting(f"{path_of(spell(path))}, and the draft has the content")
         return version
 
-    def _undo(self, core: Core, path: Path, name: bytes, handle: int, is_changed: bool, lines: list[bytes]) -> None:
-        """Closes the draft of a failed save, with the file's content."""
-        library = core.library
+    def _give_up(self, core: Core, path: Path, handle: int, lines: list[bytes]) -> None:
+        """Abandons the draft of a failed save."""
         try:
-            if is_changed:
-                content = core.read(path, name, NOW, 0)
-                core.do(library.elephant_write, path, handle, 0, content, len(content))
-                lines.extend(write_lines(handle, 0, content))
-                core.do(library.elephant_truncate, path, handle, len(content))
-                lines.append(b"truncate %d %d" % (handle, len(content)))
-            core.ask(library.elephant_close_handle, path, handle)
-            lines.append(b"close %d" % handle)
+            core.do(core.library.elephant_abandon, path, handle)
+            lines.append(b"abandon %d" % handle)
         except ElephantError:
-            # The draft stays open, so that it becomes no version.
-            self._fail("there was no memory to undo a save")
-            self._add_writer(_file_of(core, path, name), handle)
+            # A history has no memory for it. The draft stays open, so that it becomes no version.
+            self._fail("there was no memory to give up a save")
+            self._add_writer(_file_of(core, path, spell(path)), handle)
             raise
 
 

@@ -49,9 +49,8 @@ class Reader(Handle):
 
 
 class Session(Handle):
-    """Writes the draft of a file, which all its sessions share. The draft becomes a version when the last of them closes.
-
-    You can't discard a session: what it wrote becomes a version, even if a `with` block ends by an exception.
+    """Writes the draft of a file, which all its sessions share. The draft becomes a version when the last of them closes, also if a `with`
+    block ends by an exception. `abandon` ends a session without a version.
     """
 
     version: Optional[int] = None
@@ -64,6 +63,11 @@ class Session(Handle):
     def truncate(self, size: int) -> None:
         """Sets the length of the draft: cuts it, or adds zeros."""
         self._checked()._truncate_handle(self.number, size)
+
+    def abandon(self) -> None:
+        """Ends the session. If it was the file's last one, what the sessions wrote is removed, and makes no version."""
+        self._checked()._abandon_handle(self.number)
+        self.is_closed = True
 
     def close(self) -> Optional[int]:
         """Closes the handle, and returns the number of the version that the close made. None if it made none."""

@@ -14,7 +14,7 @@ from ._dump import dump
 from ._errors import BadName, ClockDoubt, ElephantError, Refused, Untold
 from ._forgetting import Forgetting
 from ._moments import NEVER, Moment, MomentLike
-from ._names import Path, require_shown, spell, spell_name
+from ._names import Path, is_path_shown, require_shown, spell, spell_name
 from ._policies import Policy
 from ._replay import QUESTIONS
 from ._turns import Clock, Fsync, Opening
@@ -191,6 +191,20 @@ class Store(Forgetting):
             self._keep(b"revert %b %d" % (name, number))
             return made
 
+    def restore(self, path: Path, moment: MomentLike) -> int:
+        """Makes what the path held at a moment its newest version, and returns the version's number. If the path named nothing then, it is
+        what the file at the path held under another name.
+
+        If the path names nothing now, the file that had the name then has it again, with all its versions. If that file has another
+        name, a new file gets the content. Raises Forgotten if the version was removed.
+        """
+        name, seconds = spell(path), self._seconds(moment)
+        with self._lock, self._change as core:
+            made = core.ask(core.library.elephant_restore, path, name, len(name), seconds)
+            self._keep(b"restore %b %d" % (name, seconds))
+            self._note_return(core, name)
+            return made
+
     # Policies, groups and marks.
 
     def set_policy(self, path: Path, policy: Policy) -> None:
@@ -278,7 +292,7 @@ class Store(Forgetting):
         spelled = line.encode("utf-8", "surrogateescape")
         words = spelled.split(b" ")
         if not _is_shown_by(words):
-            return f"bad {BadName.number} {BadName.__name__}\n"
+            return _BAD_NAME
         with self._lock:
             if words[0] in QUESTIONS:
                 return self._begin().line(spelled).decode("ascii")
@@ -293,10 +307,12 @@ class Store(Forgetting):
                 file = self._file_at(core, words[2]) if opens else UNKNOWN
                 if words[0] == b"unlink":
                     self._note_end(core, words[-1])
+                if words[0] == b"save" and len(words) == 3 and self._makes_hidden(core, words[1]):
+                    return _BAD_NAME
                 answer = self._changing_line(core, spelled)
                 self._keep_line(words, spelled, answer, file)
-                if words[0] == b"undelete":
-                    self._note_return(core, words[-1])
+                if words[0] in (b"undelete", b"restore"):
+                    self._note_return(core, b"".join(words[1:2]))
             return answer.decode("ascii")
 
     @staticmethod
@@ -333,22 +349,20 @@ class Store(Forgetting):
             self._defer(int(words[1]), line)
         elif word == b"close":
             self._keep_close(int(words[1]), len(told) > 2)
+        elif word == b"abandon":
+            self._keep_abandon(int(words[1]))
         else:
             self._keep(line)
             if words[:2] == [b"open", b"write"]:
                 self._add_writer(file, int(told[2]))
 
 
-# The lines that make a name, each with the place of its path.
-_MAKES = {b"mkdir": 1, b"create": 1, b"link": 2, b"rename": 2}
+_BAD_NAME = f"bad {BadName.number} {BadName.__name__}\n"
+# The lines that make a name, each with the place of its path and the number of its words.
+_MAKES = {b"mkdir": (1, 2), b"create": (1, 2), b"link": (2, 3), b"rename": (2, 3)}
 
 
 def _is_shown_by(words: list[bytes]) -> bool:
     """Whether a folder can show the name that a line makes, if it makes one. A line that the core takes for no command is left to it."""
-    if len(words) != _MAKES.get(words[0], 0) + 1 or words[0] not in _MAKES:
-        return True
-    try:
-        require_shown(*words[1:])
-    except BadName:
-        return False
-    return True
+    place, count = _MAKES.get(words[0], (0, 0))
+    return len(words) != count or is_path_shown(*words[1:place + 1])

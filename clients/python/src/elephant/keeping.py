@@ -29,7 +29,7 @@ from ._journal import HEADER, Journal, changes_in
 from ._library import AT, NOW, VERSION
 from ._moments import Moment
 from ._names import HIDDEN, MOST_NAME, MOST_NAMES, Path, is_shown, name_of, require_shown
-from ._replay import Replay, write_lines
+from ._replay import Replay, save_line, write_lines
 from ._space import FULL, NoSpace
 from ._store import Store
 from ._times import told_time
@@ -39,7 +39,7 @@ from ._version import about
 __all__ = [
     "AT", "DAY", "FULL", "HEADER", "HIDDEN", "MANY", "MOST_NAME", "MOST_NAMES", "NOW", "VERSION", "Announced", "Clock", "Core", "Gaps",
     "Guard", "Journal", "KeepingStore", "Lines", "NoSpace", "Opposite", "Path", "Replay", "VersionName", "about", "changes_in", "is_much",
-    "is_shown", "name_of", "named", "require_shown", "span", "told_time", "write_lines",
+    "is_shown", "name_of", "named", "require_shown", "save_line", "span", "told_time", "write_lines",
 ]
 
 # The most bytes of a change in the journal, without contents.

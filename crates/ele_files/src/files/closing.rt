@@ -48,8 +48,9 @@ impl Files {
         opening_of(self.sessions.peek_close_found(handle))
     }
 
-    /// Closes a handle whose close makes no version. While others write the file its draft stays;
-    /// with the last writer the draft is removed. A handle that reads a version leaves nothing.
+    /// Removes a handle, and makes no version. While others write the file its draft stays; with
+    /// the last writer the draft is removed, even a changed one. A handle that reads a version
+    /// leaves nothing.
     pub fn leave(&mut self, handle: &FoundHandle)
         requires { StandsAt self.old.handles handle.now }
         ensures { self.new ≡ left_by self.old handle.now.row.number }

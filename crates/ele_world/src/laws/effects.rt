@@ -1,4 +1,5 @@
 //! What single events change. Each law is the contract of a function that does nothing.
+ghost use Rattle.ele_world.specs.AbandonLeaves.{AbandonDrops, AbandonLeaves};
 ghost use Rattle.ele_world.specs.CloseTells.{CloseTells, CloseLeaves};
 ghost use Rattle.ele_world.specs.DefaultGoverns.{DefaultGoverns};
 ghost use Rattle.ele_world.specs.DraftBegins.{DraftBegins};
@@ -7,6 +8,9 @@ ghost use Rattle.ele_world.specs.HandleStays.{HandleStays};
 ghost use Rattle.ele_world.specs.MarkMarks.{MarkMarks};
 ghost use Rattle.ele_world.specs.NumberMeans.{NumberMeans};
 ghost use Rattle.ele_world.specs.PolicyGoverns.{PolicyGoverns};
+ghost use Rattle.ele_world.specs.RestoreReads.{RestoreReads};
+ghost use Rattle.ele_world.specs.SaveIsSession.{SaveCreates, SaveIsSession, SessionIsSave};
+ghost use Rattle.ele_world.specs.SaveReads.{SaveReads};
 ghost use Rattle.ele_world.specs.TruncateFits.{TruncateFits};
 ghost use Rattle.ele_world.specs.UndeleteRevives.{UndeleteRevives};
 ghost use Rattle.ele_world.specs.WriteLays.{WriteLays};
@@ -68,7 +72,7 @@ pub fn handle_reads()
     laws::policies_are_lawful();
 }
 
-/// A handle reads the same version or draft until it is closed.
+/// A handle reads the same version or draft until it is closed or abandoned.
 pub fn handle_stays()
     ensures { HandleStays }
 {
@@ -97,3 +101,57 @@ pub fn close_leaves()
 pub fn undelete_revives()
     ensures { UndeleteRevives }
 {}
+
+/// An abandoned handle has made no version, whatever the reply. All counts stay as they were.
+pub fn abandon_leaves()
+    ensures { AbandonLeaves }
+{}
+
+/// After an abandon its handle is gone. If it was the only one that wrote the file's draft, that is
+/// gone too. No other draft has changed.
+pub fn abandon_drops()
+    ensures { AbandonDrops }
+{
+    laws::policies_are_lawful();
+}
+
+/// After a save its path names a file whose current version has the saved bytes, and a read of the
+/// path returns them.
+pub fn save_reads()
+    ensures { SaveReads }
+{
+    laws::policies_are_lawful();
+}
+
+/// If a session on a file without a draft opens, empties, writes and closes, and so makes a
+/// version, a save of the same bytes makes the same version. The worlds after both differ in the
+/// count of handles alone.
+pub fn save_is_session()
+    ensures { SaveIsSession }
+{
+    laws::policies_are_lawful();
+}
+
+/// If a save makes a version of a file, the session makes it too, unless no handle can be opened.
+/// A session that finds an empty file and writes nothing makes no version.
+pub fn session_is_save()
+    ensures { SessionIsSave }
+{
+    laws::policies_are_lawful();
+}
+
+/// If nothing is at the path, a save replies and leaves what a create and then the save do, unless
+/// one of these is refused.
+pub fn save_creates()
+    ensures { SaveCreates }
+{
+    laws::policies_are_lawful();
+}
+
+/// After a restore its path names a file whose current version has the content of the version that
+/// the path had at the moment, or that its file had if the path led nowhere then.
+pub fn restore_reads()
+    ensures { RestoreReads }
+{
+    laws::policies_are_lawful();
+}

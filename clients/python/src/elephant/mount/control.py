@@ -38,9 +38,11 @@ _ASK = frozenset((
 _SHORT = frozenset(("clean", "default", "group", "mark", "pass", "policy", "unmark"))
 # End of the lines.
 # Lines that may use what is kept back of the limits.
-_UNDOING = frozenset(("undo", "undelete", "revert"))
+_UNDOING = frozenset(("undo", "undelete", "revert", "restore"))
 _MAKE = frozenset(("mkdir", "create", "link", "rename"))
-_OF_HANDLES = frozenset(("write", "truncate", "close", "read"))
+_OF_HANDLES = frozenset(("write", "truncate", "close", "abandon", "read"))
+# Lines that make a version of what a path names, and that may make the name. They are in no table of counts.
+_SAVE = frozenset(("save", "restore"))
 Changes = list[tuple[Node, Optional[bytes]]]
 
 
@@ -113,12 +115,15 @@ class Lines:
             self._prepare(words)
         if word in ("clean", "pass", "due", "why"):
             self.operations.readers.hold()
+        makes_name = word in _SAVE and len(words) == 3 and self.tree.find(as_bytes(words[1])) is None
         answer = self.store.line(" ".join(words))
-        if word in ("clean", "pass"):
+        if word in ("clean", "pass") or makes_name:
             self.store.forget_names()
-        if answer.startswith("ok ") and word not in _ASK and word != "close":
+        if answer.startswith("ok ") and word not in _ASK and word not in ("close", "abandon"):
             self.store.counts.take_line(" ".join(words).encode("ascii", "replace"))
             self.store.counts.used["versions"] += answer.startswith("ok version ") and word == "undelete"
+            if makes_name:
+                self.store.counts.take_name(int(self.store.stat_row(as_bytes(words[1])).id))
         return answer
 
     def _own_handles(self) -> set[str]:
@@ -138,7 +143,7 @@ class Lines:
             return
         if words[0] in ("unlink", "rename") and len(node.names) == 1:
             self.contents.hold(node)
-        elif words[0] == "revert":
+        elif words[0] in ("revert", *_SAVE):
             self.undo.require_no_writer(node)
 
     # Undo.

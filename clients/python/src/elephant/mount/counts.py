@@ -13,7 +13,7 @@ from .. import Limits
 TAKES = {
     b"create": ("files", "names", "versions"), b"group make": ("groups",), b"group add": ("members",), b"link": ("names",),
     b"mark": ("marks",), b"mkdir": ("directories", "names"), b"open": ("handles",), b"rename": ("names",), b"revert": ("versions",),
-    b"undelete": ("names",),
+    b"restore": ("versions",), b"save": ("versions",), b"undelete": ("names",),
 }
 # End of the counts.
 # One in so many of each limit is kept back for `undo`.
@@ -39,6 +39,13 @@ class Counts:
             self.used[name] += 1
         if words == b"undelete" and self._owed:
             self._owed -= 1
+
+    def take_name(self, file: int) -> None:
+        """Counts the name that a save gave a file, and the file with its empty version if it is new."""
+        self.used["names"] += 1
+        if file > self.used["files"]:
+            self.used["files"] += 1
+            self.used["versions"] += 1
 
     def take_line(self, line: bytes) -> None:
         """Counts the line of an answered command."""

@@ -7,7 +7,7 @@ from functools import partial
 from typing import TYPE_CHECKING, NamedTuple, Optional
 
 from .. import ElephantError, JournalError
-from ..keeping import Core, Lines, Opposite, write_lines
+from ..keeping import Core, Lines, Opposite, save_line, write_lines
 
 if TYPE_CHECKING:
     from .store import MountStore
@@ -81,8 +81,32 @@ class Drafts:
             raise NotKept(str(fault), version) from fault
 
     def save(self, path: bytes, content: bytes, remarks: Iterable[bytes] = ()) -> int:
-        """Makes a content the next version of a file. Returns the version's number, or 0 if the file was empty and stays so."""
-        return self.close(self.write(path, None, content, remarks))
+        """Makes a content the next version of a file. Returns the version's number, or 0 if the file was empty and stays so.
+
+        It is one line of the journal, if the content fits into one and no handle writes the file.
+        """
+        line = save_line(path, content) if content else None
+        if line is None or self._is_written(path):
+            return self.close(self.write(path, None, content, remarks))
+        version = 0
+        self._store.memory.require_for(len(content))
+        try:
+            with self._store.changing() as (core, lines):
+                old = int(core.stat(path, path).version)
+                version = core.ask(core.library.elephant_save, path, path, len(path), content, len(content))
+                lines += (line, *remarks)
+                self._store.counts.take(b"save")
+                self._store.opposites.append(Opposite(partial(self._go_back, path, old)))
+                return version
+        except JournalError as fault:
+            if not version:
+                raise
+            raise NotKept(str(fault), version) from fault
+
+    def _is_written(self, path: bytes) -> bool:
+        """Whether a handle writes the file at a path."""
+        file = int(self._store.stat_row(path).id)
+        return file in self._begun or file in self._files.values()
 
     def replace(
         self, path: bytes, source: bytes, content: bytes, is_fresh: bool, remarks: Iterable[bytes], keeps_open: bool = False

@@ -1,18 +1,19 @@
 """Which version wrote each slot of 512 bytes: versions whose slot was written by the same one share that block.
 
 A write makes new blocks of the slots that it meets, and so does a truncate of those that it fills and of the one that it cuts. A new
-draft has the blocks of the current version, and a copy those of its source.
+draft has the blocks of the current version, and a copy those of its source. A save makes all its blocks anew.
 """
 
 from __future__ import annotations
 
 from array import array
 from collections.abc import Iterator
+from contextlib import suppress
 from itertools import chain, count
 from typing import NamedTuple
 
-from .. import JournalError, Limits
-from ..keeping import Core
+from .. import ElephantError, JournalError, Limits
+from ..keeping import AT, NOW, Core
 from .counts import Counts
 from .records import Records
 from .witness import Witness
@@ -72,6 +73,8 @@ class Sharing(Witness):
         """By the number of the file."""
         self.files: dict[int, int] = {}
         """By each open handle that writes, the number of its file."""
+        self.copied: set[Version] = set()
+        """The versions whose bytes a restore gave another file."""
 
     def open_write(self, path: bytes) -> int:
         code = super().open_write(path)
@@ -106,6 +109,14 @@ class Sharing(Witness):
             del self.drafts[file]
         return code
 
+    def abandon(self, handle: int) -> int:
+        code = super().abandon(handle)
+        if not code:
+            file = self.files.pop(handle)
+            if file not in self.files.values():
+                del self.drafts[file]
+        return code
+
     def command(self, line: bytes) -> int:
         word, *words = line.split(b" ")
         if word in (b"clean", b"pass"):
@@ -116,6 +127,44 @@ class Sharing(Witness):
             made = int(row.id), int(row.version)
             self.contents[made] = self.contents[made[0], int(words[1])] if word == b"revert" else Content(0, array("I"))
         return code
+
+    def save(self, line: bytes, path: bytes) -> int:
+        code = super().save(line, path)
+        if not code:
+            row = self.core.stat(path, path)
+            self._note_saved(int(row.id), int(row.version), int(row.length))
+        return code
+
+    def _note_saved(self, file: int, version: int, length: int) -> None:
+        if version == 2:  # then the file may be new, and has its empty version
+            self.contents.setdefault((file, 1), Content(0, array("I")))
+        self.contents[file, version] = Content(length, array("I", [version]) * _slots(length))
+
+    def restore(self, line: bytes, path: bytes, moment: bytes) -> int:
+        source = self._held_then(path, int(moment))
+        code = super().restore(line, path, moment)
+        if not code:
+            row = self.core.stat(path, path)
+            file, version = int(row.id), int(row.version)
+            if file == source[0]:
+                self.contents[file, version] = self.contents[source]
+            else:
+                self._note_saved(file, version, int(row.length))
+                self.copied.add(source)
+        return code
+
+    def _held_then(self, path: bytes, moment: int) -> Version:
+        """Returns the version that a path held at a moment: of the file that it named then, or else of the one that it names now. Without
+        one, what is refused, it returns zeros."""
+        with suppress(ElephantError):
+            row = self.core.stat(path, path, AT, moment)
+            return int(row.id), int(row.version)
+        with suppress(ElephantError):
+            file = int(self.core.stat(path, path).id)
+            rows = self.core.versions(path, path, NOW, 0)
+            lived = [it.number for it in rows if it.closed <= moment and (it.ended is None or moment < it.ended)]
+            return file, lived[-1] if lived else 0
+        return 0, 0
 
     def undelete(self, path: bytes) -> int:
         code = super().undelete(path)

@@ -59,6 +59,21 @@ class Census(Sharing):
             self.changes.update((self.moment, path) for path in words)
         return super().command(line)
 
+    def save(self, line: bytes, path: bytes) -> int:
+        return super().save(line, path) or self._note_name(path)
+
+    def restore(self, line: bytes, path: bytes, moment: bytes) -> int:
+        return super().restore(line, path, moment) or self._note_name(path)
+
+    def _note_name(self, path: bytes) -> int:
+        """Notes a name that may be new."""
+        self.changes.add((self.moment, path))
+        return 0
+
+    def is_needed(self, version: Version) -> bool:
+        """Whether the new journal has to have a version's content: it is held, or was copied."""
+        return version in self.contents or version in self.copied
+
     def end(self) -> None:
         """Frees the store, and keeps the results."""
         self.core.free()
@@ -119,8 +134,11 @@ class Shortening(Replay):
     def close(self, handle: int) -> int:
         made = self._census.made.get(handle)
         if made is not None:
-            self._fill(handle, made, made.version in self._census.contents)
+            self._fill(handle, made, self._census.is_needed(made.version))
         return super().close(handle) or self._also(b"close %d" % handle)
+
+    def abandon(self, handle: int) -> int:
+        return super().abandon(handle) or self._also(b"abandon %d" % handle)
 
     def _fill(self, handle: int, made: Made, is_held: bool) -> None:
         """Writes a version into the other store's draft: all of it, or what others need of it."""
@@ -137,7 +155,16 @@ class Shortening(Replay):
             self._also(line)
 
     def command(self, line: bytes) -> int:
-        return super().command(line) or self._also(line)
+        return super().command(line) or self._also(self._shortened(line))
+
+    def _shortened(self, line: bytes) -> bytes:
+        """Returns the line of a save without the content, if nothing needs it, and any other line as it is."""
+        word, path, *_ = line.split(b" ", 2) if line.startswith(b"save ") else (b"", b"")
+        if not word:
+            return line
+        row = self.core.stat(path, path)
+        version = int(row.id), int(row.version)
+        return line if self._census.is_needed(version) or version in self._census.lived_on else b"save %b -" % path
 
 
 def _with_slots(old: bytes, content: bytes, slots: Collection[int]) -> bytes:

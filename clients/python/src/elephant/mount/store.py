@@ -18,7 +18,7 @@ from .witness import Witness
 CLOCK_IS_RIGHT = "time is right"
 READ_ONLY = "the folder was mounted with --read-only"
 # Lines that end no name and restore none. A removal of the last version of a file without a name may: `forget_names` is for that.
-_OF_CONTENTS = (b"# ", b"clock ", b"write ", b"truncate ", b"open ", b"close ", b"clean", b"pass ")
+_OF_CONTENTS = (b"# ", b"clock ", b"write ", b"truncate ", b"open ", b"close ", b"abandon ", b"save ", b"clean", b"pass ")
 _REMOVALS = (b"unlink", b"rmdir")
 _ENDS = (*_REMOVALS, b"rename")
 Remarks = Callable[[int], Sequence[bytes]]

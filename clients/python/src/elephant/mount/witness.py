@@ -38,6 +38,10 @@ class Witness(Replay):
         word, _, rest = line.partition(b" ")
         if word == b"undelete":
             return self.undelete(rest)
+        if word == b"save":
+            return self.save(line, rest.partition(b" ")[0])
+        if word == b"restore":
+            return self.restore(line, *rest.split(b" "))
         code = super().command(line)
         if not code:
             self.counts.take_line(line)
@@ -46,6 +50,20 @@ class Witness(Replay):
             self.gaps.note(self.moment)
             self.first_moment = self.first_moment or self.moment
         return code
+
+    def save(self, line: bytes, path: bytes) -> int:
+        """Runs a line that makes a version of what a path names, and maybe the name."""
+        had_name = self.core.code_at(path) == 0
+        code = super().command(line)
+        if not code:
+            self.counts.take_line(line)
+            if not had_name:
+                self.counts.take_name(int(self.core.stat(path, path).id))
+        return code
+
+    def restore(self, line: bytes, path: bytes, moment: bytes) -> int:
+        """Does so with what the path held at a moment."""
+        return Witness.save(self, line, path)
 
     def undelete(self, path: bytes) -> int:
         code: int = self.library.elephant_undelete(self.core.handle, path, len(path), self.core.number_at)

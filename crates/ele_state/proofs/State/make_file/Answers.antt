@@ -10,14 +10,14 @@ add-requires c = follows_new c.self.inside.rows c.args.directory c.args.name (Fi
 
 -- the name goes again
 names_back : (c : goal.After-drop_file) → c.drop_file.new.self ≡ c.self.inside.rows.names
-names_back c = grind (arith, nat_tests, name_goes c.self.inside.rows c.args.directory c.args.name c.self.invariant.sound)
+names_back c = grind (arith, nat_tests, name_goes (world_of c.self.inside.rows) c.args.directory c.args.name c.self.invariant.sound.formed)
 
 pub returns-in-Err-clause-err : goal.returns-in-Err-clause-err
 returns-in-Err-clause-err c = rw (← c.self.view_is, names_back c, c.in-Err.ensures.err) refl
 
 pub invariant_of-self-in-Err : goal.invariant_of-self-in-Err
 invariant_of-self-in-Err c =
-    let back : c.drop_file.new.self ≡ c.self.inside.rows.names = grind (arith, nat_tests, name_goes c.self.inside.rows c.args.directory c.args.name c.self.invariant.sound) in
+    let back : c.drop_file.new.self ≡ c.self.inside.rows.names = grind (arith, nat_tests, name_goes (world_of c.self.inside.rows) c.args.directory c.args.name c.self.invariant.sound.formed) in
     rw (back, c.in-Err.ensures.err) c.self.invariant
 
 pub returns-clause-ok : goal.returns-clause-ok

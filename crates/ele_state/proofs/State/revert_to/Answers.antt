@@ -3,7 +3,7 @@ use Rattle.ele_state.proofs.Grown.{grown_tracked, none_new, roomy}
 use Rattle.ele_state.proofs.SoundAfter.{settled_or}
 use Rattle.ele_state.proofs.Revived.{held_ready, held_there, restores}
 use Rattle.std.proofs.lemmas.Result.{on_err_weaker}
-use Rattle.ele_state.specs.declared.append.Source.TheVariants.{Version}
+use Rattle.ele_state.specs.Source.{Version}
 use Rattle.ele_state.proofs.State.revert_to.Goals as goal
 
 pub head-head-requires : goal.head-head-requires

@@ -1,4 +1,4 @@
-use Rattle.ele_state.proofs.Words.{arith, nat_tests, placed_of, world_of, not, ap, comes, Rule, rule_in, true, has_key, sym, ◌&&◌, ◌∙◌, ◌≡◌, ◌||◌}
+use Rattle.ele_state.proofs.Words.{placed_of, world_of, not, ap, comes, Rule, rule_in, true, has_key, ◌&&◌, ◌∙◌, ◌≡◌, ◌||◌}
 use Rattle.ele_state.proofs.Unlinked.{ended_book, ended_queue, name_there, still_queued}
 use Rattle.std.specs.Prelude.{max}
 use Rattle.ele_state.proofs.name.end_last_name.Goals as goal

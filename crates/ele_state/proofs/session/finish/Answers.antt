@@ -2,7 +2,7 @@ use Rattle.ele_state.proofs.Words.{arith, nat_tests, world_of}
 use Rattle.ele_state.proofs.ClosedSteps.{file_there, finished_step}
 use Rattle.ele_state.proofs.Grown.{grown_tracked, none_new, ready, roomy}
 use Rattle.ele_state.proofs.session.finish.Goals as goal
-use Rattle.ele_state.specs.declared.append.Source.TheVariants.{Draft}
+use Rattle.ele_state.specs.Source.{Draft}
 
 pub head-head-requires : goal.head-head-requires
 head-head-requires c = file_there (world_of c.args.rows.now) c.args.handle.now.row.number c.args.file c.requires.reads c.args.opened c.requires.changed c.requires.sound.formed
