@@ -175,6 +175,19 @@ void elephant_close(elephant *e);
  * answer: the one before it stays. */
 int32_t elephant_detail(const elephant *e, uint64_t *detail);
 
+/* How many of each kind were ever made, as the limits count them. A limit less its count is what may still be made. */
+typedef struct elephant_counts_row {
+    uint64_t events;       /* with a history: its entries, and the folded ones; else 0 */
+    uint64_t files;
+    uint64_t directories;  /* without the root */
+    uint64_t names;        /* names given, also by link, rename and undelete */
+    uint64_t versions;     /* with the open drafts */
+    uint64_t handles, groups, members, marks;
+} elephant_counts_row;
+
+/* Returns what the limits count. */
+int32_t elephant_counts(const elephant *e, elephant_counts_row *row);
+
 /* ---- Lines of the script language ---- */
 
 /* Runs one line, without its line feed, and keeps the text of its answer, of *length bytes: lines with their line feeds, as the

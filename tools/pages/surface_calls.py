@@ -20,7 +20,7 @@ SOURCE = "clients/c/src/elephant.c"
 # Calls of the header that `ele_c` exports.
 DIRECT = ("new", "delete", "open", "close", "line", "tell", "ahead", "trim")
 # The calls that only look at the handle.
-LOOKS = re.compile(r"now|detail|answer|take|read_into|read_handle_into|rung|row_\w+|why_group|history")
+LOOKS = re.compile(r"now|detail|counts|answer|take|read_into|read_handle_into|rung|row_\w+|why_group|history")
 
 
 class Asked(NamedTuple):
@@ -49,7 +49,8 @@ EVENTS = {
 }
 # Calls that copy what is kept, by the index of a row and in it that of a member or a mark.
 KEPT = {
-    "now": Asked("out", kind="Now"), "detail": Asked("out", kind="Detail"), "history": Asked("out out", kind="History"),
+    "now": Asked("out", kind="Now"), "detail": Asked("out", kind="Detail"), "counts": Asked("out", kind="Counts"),
+    "history": Asked("out out", kind="History"),
     "rung": Asked("number out out", kind="Rung"), "row_version": Asked("number out", kind="Version"),
     "row_name": Asked("number out", kind="Name"), "row_key": Asked("number out", kind="Key"),
     "row_usage": Asked("number out", kind="Usage"), "row_group": Asked("number out", kind="Group"),

@@ -20,7 +20,9 @@ LINE_FAULT, SHELL_FAULT = "crates/ele_printer/src/fault.rt", "crates/ele_run_opt
 STORM_FAULT = "crates/ele_storm_plan/src/fault.rt"
 CODES, TAGS, CALLS, KINDS, OF_LIMITS = (f"crates/ele_c_values/src/{it}.rt" for it in ("codes", "asks", "call", "kind", "limits"))
 # Where answers become numbers: a comment has the columns of each row.
-KEPT, NAMES, GROUPS, STATS, FATES = (f"crates/ele_c_values/src/{it}.rt" for it in ("kept", "names", "groups", "stats", "fates"))
+KEPT, NAMES, GROUPS, STATS, FATES, COUNTS = (
+    f"crates/ele_c_values/src/{it}.rt" for it in ("kept", "names", "groups", "stats", "fates", "counts")
+)
 NUMBER_RULES = "crates/ele_c_values/specs/Numbers.antt"
 # What has a number: its source, and the type that has it. Another type may have the numbers of memory and of a full history too.
 NUMBERED = [
@@ -41,7 +43,7 @@ CONSTANTS = {
 }
 SOURCES = [
     COMMAND, PARTS, STEP, CHANGE, ASKS, REFUSAL, LIMITS, ERRORS, HELP_PAGES, HELP_SCRIPT, LINE_FAULT, SHELL_FAULT, STORM_FAULT, CODES,
-    TAGS, CALLS, KINDS, OF_LIMITS, KEPT, NAMES, GROUPS, STATS, FATES, NUMBER_RULES,
+    TAGS, CALLS, KINDS, OF_LIMITS, KEPT, NAMES, GROUPS, STATS, FATES, COUNTS, NUMBER_RULES,
     *sorted({path for path, _ in CONSTANTS.values()} - {LIMITS}),
 ]
 EXPORTS = "crates/ele_c/src"
@@ -301,7 +303,7 @@ def rows_of(tree: Tree) -> dict[str, list[str]]:
     """Returns the columns of each row, by its name in C."""
     of_limits = match_in(r"(?m)^pub struct LimitFields \{\n((?: .*\n)*)\}", tree[OF_LIMITS])[1]
     found = {"elephant_limits": re.findall(r"pub (\w+): u64,", of_limits)}
-    for path in (STATS, KEPT, NAMES, GROUPS, FATES):
+    for path in (STATS, KEPT, NAMES, GROUPS, FATES, COUNTS):
         for name, columns in re.findall(r"^// `(elephant_\w+)`: ((?:.|\n//)*?)\.\n", tree[path], re.M):
             found[name] = re.findall(r"\w+", columns)
     return found

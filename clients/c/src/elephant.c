@@ -17,7 +17,7 @@ enum { CALL_CLOCK, CALL_TICK, CALL_MAKE_DIR, CALL_REMOVE_DIR, CALL_CREATE, CALL_
        CALL_READ_HANDLE, CALL_STAT, CALL_VERSIONS, CALL_LIST_NAMES, CALL_RESTORABLE, CALL_DUE, CALL_USAGE_ALL, CALL_GROUPS_ALL,
        CALL_SAVE, CALL_ABANDON, CALL_RESTORE };
 enum { KIND_NOW, KIND_DETAIL, KIND_HISTORY, KIND_PASS, KIND_WHY, KIND_KEY, KIND_REMOVED, KIND_VERSION, KIND_NAME, KIND_USAGE,
-       KIND_GROUP, KIND_MEMBER, KIND_MARK, KIND_STAT, KIND_RUNG };
+       KIND_GROUP, KIND_MEMBER, KIND_MARK, KIND_STAT, KIND_RUNG, KIND_COUNTS };
 enum { BYTES_CONTENT, BYTES_TEXT, BYTES_NAME, BYTES_GROUP };
 
 int32_t inner_numbers(const elephant *e, uint32_t kind, uint64_t index, uint64_t inner, inner_row *into);
@@ -96,6 +96,16 @@ int32_t elephant_detail(const elephant *e, uint64_t *detail) {
     int32_t code = inner_numbers(e, KIND_DETAIL, 0, 0, &kept);
     if (!code) {
         *detail = kept.at[0];
+    }
+    return code;
+}
+
+int32_t elephant_counts(const elephant *e, elephant_counts_row *row) {
+    inner_row kept;
+    int32_t code = inner_numbers(e, KIND_COUNTS, 0, 0, &kept);
+    if (!code) {
+        *row = (elephant_counts_row){kept.at[0], kept.at[1], kept.at[2], kept.at[3], kept.at[4], kept.at[5], kept.at[6], kept.at[7],
+            kept.at[8]};
     }
     return code;
 }

@@ -78,12 +78,14 @@ static void a_closed_handle_answers(void) {
     elephant_name_row name = {.id = 7};
     elephant_key key = {.file = 7};
     elephant_usage_row usage = {.files = 7};
+    elephant_counts_row counts = {.files = 7};
     elephant_group_row group = {.marks = 7};
     elephant_mark_row mark = {.moment = 7};
     elephant_why_row why = {.fate = 7};
     elephant_new(&e);
     WANT(e);
     CODE(closed, elephant_detail(e, &a));
+    CODE(closed, elephant_counts(e, &counts));
     CODE(closed, elephant_line(e, TEXT("due"), &a));
     CODE(closed, elephant_tell(e, &a));
     CODE(closed, elephant_answer(e, 0, into, sizeof into, &a));
@@ -144,7 +146,7 @@ static void a_closed_handle_answers(void) {
     CODE(closed, elephant_trim(e, &a));
     WANT(a == 7 && b == 7 && !strcmp(into, "unasked"));
     WANT(stat.id == 7 && version.number == 7 && name.id == 7 && key.file == 7 && usage.files == 7);
-    WANT(group.marks == 7 && mark.moment == 7 && why.fate == 7);
+    WANT(group.marks == 7 && mark.moment == 7 && why.fate == 7 && counts.files == 7);
     elephant_delete(e);
 }
 
@@ -858,6 +860,43 @@ static void each_limit_is_told_by_its_number(void) {
     elephant_delete(e);
 }
 
+static void what_the_limits_count_is_told(void) {
+    elephant *e = fresh(1);
+    elephant_counts_row counts;
+    uint64_t number, handle;
+    OK(elephant_counts(e, &counts));
+    WANT(!counts.events && !counts.files && !counts.directories && !counts.names && !counts.versions && !counts.handles);
+    WANT(!counts.groups && !counts.members && !counts.marks);
+    OK(elephant_mkdir(e, TEXT("/d"), &number));
+    OK(elephant_create(e, TEXT("/d/f"), &number));
+    OK(elephant_link(e, TEXT("/d/f"), TEXT("/l")));
+    OK(elephant_open_write(e, TEXT("/l"), &handle));
+    OK(elephant_write(e, handle, 0, TEXT("x")));
+    OK(elephant_close_handle(e, handle, &number));
+    OK(elephant_open_write(e, TEXT("/l"), &handle));
+    OK(elephant_group_make(e, TEXT("g")));
+    OK(elephant_group_add(e, TEXT("g"), TEXT("/l")));
+    OK(elephant_tick(e, 9));
+    OK(elephant_mark(e, TEXT("g"), 3, ELEPHANT_NEVER));
+    OK(elephant_counts(e, &counts));
+    WANT(counts.events == 11 && counts.files == 1 && counts.directories == 1 && counts.names == 3);
+    /* The empty first version, that of the session, and the open draft. */
+    WANT(counts.versions == 3 && counts.handles == 2 && counts.groups == 1 && counts.members == 1 && counts.marks == 1);
+    OK(elephant_close_handle(e, handle, &number));
+    OK(elephant_group_drop(e, TEXT("g")));
+    OK(elephant_unlink(e, TEXT("/l")));
+    OK(elephant_trim(e, &number));
+    OK(elephant_counts(e, &counts));
+    WANT(counts.events == 14 && counts.names == 3 && counts.versions == 2 && counts.handles == 2);
+    WANT(counts.groups == 1 && counts.members == 1 && counts.marks == 1);
+    elephant_delete(e);
+    e = fresh(0);
+    OK(elephant_tick(e, 9));
+    OK(elephant_counts(e, &counts));
+    WANT(counts.events == 0);
+    elephant_delete(e);
+}
+
 static void a_history_is_kept_and_folded(void) {
     const elephant_limits few = {3, 9, 9, 9, 9, 9, 9, 9, 9};
     elephant *e;
@@ -1029,6 +1068,7 @@ int main(void) {
     a_ladder_tells_what_displaced_a_version();
     a_mark_keeps_what_was_current();
     each_limit_is_told_by_its_number();
+    what_the_limits_count_is_told();
     a_history_is_kept_and_folded();
     lines_are_answered_as_the_program_prints_them();
     calls_that_only_look_leave_the_result();

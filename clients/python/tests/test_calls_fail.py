@@ -109,7 +109,7 @@ ROWS: dict[type, dict[str, list[Call]]] = {
     Store: {
         "ahead": [lambda it: it.store.ahead(LASTING)], "answers": [], "clean": [lambda it: it.store.clean()],
         "clock": [lambda it: it.store.clock(30)],
-        "close": [lambda it: it.store.close()],
+        "close": [lambda it: it.store.close()], "counts": [lambda it: it.store.counts()],
         "create": [lambda it: it.store.create("/n")],
         "due": [lambda it: it.store.due()], "dump": [lambda it: it.store.dump()], "gone": [],
         "group_add": [lambda it: it.store.group_add("k", "/d/f")], "group_drop": [lambda it: it.store.group_drop("k")],

@@ -13,6 +13,7 @@ from typing import Any, BinaryIO, Callable, Union, cast
 
 import elephant
 from elephant import (
+    Counts,
     Current,
     DeletedName,
     DirectoryStat,
@@ -511,6 +512,31 @@ class Policies(unittest.TestCase):
             self.assertEqual(store.usage()[2], Usage("safe", 1, 2, 2, 2))
             self.assertRaises(elephant.NoVersion, store.read, "/f", version=5)
             self.assertRaises(Forgotten, store.revert, "/f", 1)
+
+    def test_what_the_limits_count(self) -> None:
+        with manual(history=True) as store:
+            store.mkdir("/d")
+            store.create("/d/f")
+            store.link("/d/f", "/l")
+            with store.session("/l") as session:
+                session.write(b"x")
+            with store.session("/l"):
+                # The empty first version, that of the session, and an open draft, which wasn't changed and makes none.
+                self.assertEqual((store.counts().versions, store.counts().handles), (3, 2))
+            store.group_make("g")
+            store.group_add("g", "/l")
+            store.clock(9)
+            store.mark("g", 3)
+            before = store.counts()
+            made = dict(files=1, directories=1, names=3, versions=2, handles=2, groups=1, members=1, marks=1)
+            self.assertEqual(before, Counts(events=before.events, **made))
+            store.unlink("/l")
+            store.trim()
+            self.assertEqual(store.counts(), before._replace(events=before.events + 1))
+        with manual() as store:
+            store.clock(9)
+            self.assertEqual(store.counts(), Counts(*[0] * 9))
+            self.assertEqual(Counts._fields, Limits._fields)
 
     def test_groups_and_marks(self) -> None:
         with manual() as store:

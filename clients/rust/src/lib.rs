@@ -56,6 +56,6 @@ pub use reader::Reader;
 pub use session::Session;
 pub use store::{Options, Store};
 pub use types::{
-    at, moment, version, Cause, DeletedName, Entry, Fate, Group, Limits, Mark, Node, Pass, PassEnd, PathEntry, Policy, Removable,
-    Rung, Stat, Target, Usage, Usages, Version, LAST_MOMENT,
+    at, moment, version, Cause, Counts, DeletedName, Entry, Fate, Group, Limits, Mark, Node, Pass, PassEnd, PathEntry, Policy,
+    Removable, Rung, Stat, Target, Usage, Usages, Version, LAST_MOMENT,
 };

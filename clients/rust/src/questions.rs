@@ -3,7 +3,8 @@
 use crate::store::parts;
 use crate::sys;
 use crate::{
-    Cause, DeletedName, Entry, Error, Fate, Mark, Node, Policy, Removable, Rung, Stat, Store, Target, Usage, Usages, Version,
+    Cause, Counts, DeletedName, Entry, Error, Fate, Mark, Node, Policy, Removable, Rung, Stat, Store, Target, Usage, Usages,
+    Version,
 };
 
 // The longest name of a path or a group.
@@ -153,6 +154,25 @@ impl Store {
         // SAFETY: see `call`.
         let row: sys::elephant_usage_row = self.row(|e, row| unsafe { sys::elephant_row_usage(e, kind, row) })?;
         Ok(Usage { files: row.files, versions: row.versions, bytes: row.bytes, blocks: row.blocks })
+    }
+
+    /// Returns how many of each kind were ever made. A limit of [`Limits`](crate::Limits) less its count is what the store may still
+    /// make.
+    #[must_use]
+    pub fn counts(&self) -> Counts {
+        // SAFETY: see `call`. An open store has no error here.
+        let row: sys::elephant_counts_row = self.row(|e, row| unsafe { sys::elephant_counts(e, row) }).unwrap_or_default();
+        Counts {
+            events: row.events,
+            files: row.files,
+            directories: row.directories,
+            names: row.names,
+            versions: row.versions,
+            handles: row.handles,
+            groups: row.groups,
+            members: row.members,
+            marks: row.marks,
+        }
     }
 
     /// Returns why a version is held, or due. In a store with a history it also returns when and why a version was removed, if you ask

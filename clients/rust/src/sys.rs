@@ -95,6 +95,20 @@ pub struct elephant_limits {
 
 #[repr(C)]
 #[derive(Default)]
+pub struct elephant_counts_row {
+    pub events: u64,
+    pub files: u64,
+    pub directories: u64,
+    pub names: u64,
+    pub versions: u64,
+    pub handles: u64,
+    pub groups: u64,
+    pub members: u64,
+    pub marks: u64,
+}
+
+#[repr(C)]
+#[derive(Default)]
 pub struct elephant_stat_row {
     pub is_directory: u64,
     pub id: u64,
@@ -180,6 +194,7 @@ extern "C" {
     pub fn elephant_delete(e: *mut elephant);
     pub fn elephant_open(e: *mut elephant, limits: *const elephant_limits, history: u32) -> i32;
     pub fn elephant_detail(e: *const elephant, detail: *mut u64) -> i32;
+    pub fn elephant_counts(e: *const elephant, row: *mut elephant_counts_row) -> i32;
     pub fn elephant_line(e: *mut elephant, line: *const u8, len: usize, length: *mut u64) -> i32;
     pub fn elephant_tell(e: *mut elephant, length: *mut u64) -> i32;
     pub fn elephant_answer(e: *const elephant, offset: u64, into: *mut u8, room: usize, copied: *mut u64) -> i32;

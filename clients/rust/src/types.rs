@@ -91,6 +91,29 @@ impl Default for Limits {
     }
 }
 
+/// How many of each kind a store has ever made, as [`Limits`] counts them.
+#[derive(Clone, Copy, Debug, Default, PartialEq, Eq, Hash)]
+pub struct Counts {
+    /// Events answered, with those that are folded; 0 in a store without a history.
+    pub events: u64,
+    /// Files.
+    pub files: u64,
+    /// Directories without the root.
+    pub directories: u64,
+    /// Names given, also by link, rename and undelete.
+    pub names: u64,
+    /// Versions, with the open drafts.
+    pub versions: u64,
+    /// Handles opened.
+    pub handles: u64,
+    /// Groups.
+    pub groups: u64,
+    /// Files added to groups.
+    pub members: u64,
+    /// Marks.
+    pub marks: u64,
+}
+
 /// When a file's versions may be removed.
 #[derive(Clone, Debug, PartialEq, Eq, Hash)]
 #[non_exhaustive]

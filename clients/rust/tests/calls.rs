@@ -295,6 +295,33 @@ fn what_is_used_is_told_by_kind_of_policy() {
 }
 
 #[test]
+fn what_the_limits_count_is_told() {
+    let store = Options::new().history(true).open().unwrap();
+    store.mkdir("/d").unwrap();
+    store.create("/d/f").unwrap();
+    store.link("/d/f", "/l").unwrap();
+    store.session("/l").unwrap().write_at(0, b"abc").unwrap();
+    let session = store.session("/l").unwrap();
+    store.group_make("g").unwrap();
+    store.group_add("g", "/l").unwrap();
+    store.clock(9).unwrap();
+    store.mark("g", 3, None).unwrap();
+    // A file is made with an empty version, the first session made another one, and the second has a draft.
+    let counts = store.counts();
+    let made = (counts.files, counts.directories, counts.names, counts.versions, counts.handles);
+    assert_eq!(made, (1, 1, 3, 3, 2));
+    assert_eq!((counts.groups, counts.members, counts.marks), (1, 1, 1));
+    // A draft that wasn't changed makes no version. Its handle stays counted.
+    drop(session);
+    assert_eq!((store.counts().versions, store.counts().handles), (2, 2));
+    let events = store.counts().events;
+    store.tick(1).unwrap();
+    store.trim().unwrap();
+    assert_eq!(store.counts().events, events + 1);
+    assert_eq!(Store::new().unwrap().counts(), Counts::default());
+}
+
+#[test]
 fn versions_become_due_and_a_pass_removes_them() {
     let store = with_file();
     store.set_policy("/f", &Policy::KeepSafe { seconds: 5, floor: 0 }).unwrap();

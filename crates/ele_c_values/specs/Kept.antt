@@ -1,13 +1,14 @@
 -- What the handle keeps of each kind, as numbers and as bytes.
 use Rattle.std.specs.Prelude.{ℕ, ◌==◌, ℤ, pos, List, [], ◌∷◌, length, slice_get, Option, Some, None, Result, Ok, Err, if◌then◌else◌}
 use Rattle.ele_c_values.specs.Codes.{detail_of}
-use Rattle.ele_c_values.specs.Numbers.{zeros, single, pair, version_numbers, key_numbers, usage_numbers, named_numbers, dead_numbers, group_numbers, mark_numbers, file_numbers, directory_numbers, fate_numbers, pass_numbers}
+use Rattle.ele_c_values.specs.Numbers.{zeros, single, pair, version_numbers, key_numbers, usage_numbers, named_numbers, dead_numbers, group_numbers, mark_numbers, file_numbers, directory_numbers, fate_numbers, pass_numbers, made_numbers}
 use Rattle.ele_c_values.specs.declared.kind.Kind.{Kind}
 use Rattle.ele_c_values.specs.declared.kind.Kind.TheVariants as kind
 use Rattle.ele_c_values.specs.declared.numbers.Numbers.{Numbers}
 use Rattle.ele_due.specs.declared.key.Key.{Key}
-use Rattle.ele_embed.specs.Embedding.{Embedding, past_in, reply_of, world_in}
+use Rattle.ele_embed.specs.Embedding.{Embedding, events_in, past_in, reply_of, world_in}
 use Rattle.ele_history.specs.Past.{Past}
+use Rattle.ele_model.specs.CountsOf.{counts_of}
 use Rattle.ele_model.specs.declared.fate.Fate.TheVariants as fate
 use Rattle.ele_model.specs.declared.reply.Reply.{Reply}
 use Rattle.ele_model.specs.declared.reply.Reply.TheVariants as reply
@@ -23,7 +24,7 @@ use Rattle.ele_runs.specs.declared.said.Said.TheVariants as said
 abbrev pub kinds : List Kind
 kinds =
     kind.Now ∷ kind.Detail ∷ kind.History ∷ kind.Pass ∷ kind.Why ∷ kind.Key ∷ kind.Removed ∷ kind.Version ∷ kind.Name ∷ kind.Usage
-    ∷ kind.Group ∷ kind.Member ∷ kind.Mark ∷ kind.Stat ∷ kind.Rung ∷ []
+    ∷ kind.Group ∷ kind.Member ∷ kind.Mark ∷ kind.Stat ∷ kind.Rung ∷ kind.Counts ∷ []
 
 -- a row of a list that is kept, or 69; a kind of which nothing is kept is 68
 abbrev pub row_as : {X Y : Type 0} → (X → Y) → Option X → Result Y ℤ
@@ -112,6 +113,10 @@ rung_in (Some (reply.FileStat stat)) index = row_in (λ (rung : ℕ × ℕ). pai
 rung_in (Some (reply.DirStat row)) index = row_in (λ (rung : ℕ × ℕ). pair rung.0 rung.1) (rungs_of row.default) index
 rung_in other index = Err (pos 68)
 
+-- what the limits count
+abbrev pub counts_made : Embedding → Numbers
+counts_made store = made_numbers (events_in (past_in store.state)) (counts_of (world_in store.state))
+
 -- what is asked for by its kind, the index of its row, and in a group's row that of a member or mark
 abbrev pub numbers_of : Kind → Embedding → ℕ → ℕ → Result Numbers ℤ
 numbers_of kind.Now store index inner = Ok (single (world_in store.state).now)
@@ -129,6 +134,7 @@ numbers_of kind.Member store index inner = member_in (group_in (reply_of store) 
 numbers_of kind.Mark store index inner = mark_in (group_in (reply_of store) index) inner
 numbers_of kind.Stat store index inner = stat_in (reply_of store)
 numbers_of kind.Rung store index inner = rung_in (reply_of store) index
+numbers_of kind.Counts store index inner = Ok (counts_made store)
 
 -- a number that no kind has keeps nothing
 abbrev pub numbers_at : Option Kind → Embedding → ℕ → ℕ → Result Numbers ℤ

@@ -20,10 +20,11 @@ pub enum Kind {
     Mark,
     Stat,
     Rung,
+    Counts,
 }
 
 // The kinds in the order of their numbers, which is that of the type.
-static KINDS: [Kind; 15] = [
+static KINDS: [Kind; 16] = [
     Kind::Now,
     Kind::Detail,
     Kind::History,
@@ -39,6 +40,7 @@ static KINDS: [Kind; 15] = [
     Kind::Mark,
     Kind::Stat,
     Kind::Rung,
+    Kind::Counts,
 ];
 
 /// Returns the kind of a number, if there is one.

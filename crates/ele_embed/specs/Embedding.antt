@@ -1,6 +1,6 @@
 -- A store as a contract sees it.
-use Rattle.std.specs.Prelude.{ℕ, List, [], Option, None}
-use Rattle.ele_history.specs.Past.{fresh}
+use Rattle.std.specs.Prelude.{ℕ, List, [], Option, Some, None}
+use Rattle.ele_history.specs.Past.{Past, count_of, fresh}
 use Rattle.ele_model.specs.Bounds.{Bounds}
 use Rattle.ele_model.specs.World.{fresh_world}
 use Rattle.ele_model.specs.declared.reply.Reply.{Reply}
@@ -36,3 +36,8 @@ reply_said said state = None
 
 abbrev pub reply_of : Embedding → Option Reply
 reply_of store = reply_said store.said store.state
+
+-- how many events a history has, with those that are folded; without a history none are counted
+abbrev pub events_in : Option Past → ℕ
+events_in None = 0
+events_in (Some past) = count_of past

@@ -4,11 +4,12 @@
 
 ghost use Rattle.std.specs.Prelude.{◌≡◌, ◌≢◌, [], Some, None, true, false, IfOk, OnOk, OnErr};
 ghost use Rattle.std.specs.Option.{option_copied};
-ghost use Rattle.ele_embed.specs.Embedding.{Plain, Recorded, fresh_plain, fresh_recorded, reply_of, world_in, past_in};
+ghost use Rattle.ele_embed.specs.Embedding.{Plain, Recorded, events_in, fresh_plain, fresh_recorded, reply_of, world_in, past_in};
 ghost use Rattle.ele_embed.specs.Hears.{Hears, explaining};
 ghost use Rattle.ele_embed.specs.Kept.{state_of};
 ghost use Rattle.ele_embed.specs.Takes.{CopiesRead, Runs, Passes, FoldsOrNot, TellsWhy, TellsAhead};
 ghost use Rattle.ele_embed.specs.Text.{IsTold, IsRunBlock};
+ghost use Rattle.ele_model.specs.CountsOf.{counts_of};
 ghost use Rattle.ele_runs.specs.declared.said.Said.TheVariants as said;
 
 mod keeper;
@@ -17,7 +18,9 @@ use crate::keeper::Keeper;
 pub use ele_core::Copied;
 use ele_core::Core;
 use ele_history::History;
-use ele_model::{Event, Limits, Moment, NoMemory, PassEnd, Refusal, Reply, Source, TaggedPath};
+use ele_model::{
+    Counts, Event, Limits, Moment, NoMemory, PassEnd, Refusal, Reply, Source, TaggedPath,
+};
 use ele_output::{Printer, WriteFault};
 pub use ele_runs::Said;
 use ele_runs::{Keep, RunOptions, explain_alone, hear_kept, kept_line};
@@ -224,6 +227,24 @@ impl Store {
         ensures { option_copied result ≡ past_in self.now.state }
     {
         self.keeper.history()
+    }
+
+    /// Returns how many of each kind were ever made, as the limits count them: open drafts count as
+    /// versions.
+    pub fn counts(&self) -> Counts
+        ensures { result ≡ counts_of (world_in self.now.state) }
+    {
+        self.keeper.core().counts()
+    }
+
+    /// Returns how many events the history has, with those that are folded. Without a history it returns 0.
+    pub fn events(&self) -> u64
+        ensures { result ≡ events_in (past_in self.now.state) }
+    {
+        match self.keeper.history() {
+            Some(history) => history.count(),
+            None => 0,
+        }
     }
 }
 

@@ -15,6 +15,7 @@ from ._answers import (
     Answers,
     Cause,
     ClosedSession,
+    Counts,
     Current,
     DeadName,
     DeletedName,
@@ -107,7 +108,7 @@ from ._version import __version__
 # Printed by tools/pages/surface --write: all names, from the imports.
 __all__ = [
     "LAST_MOMENT", "__version__", "AlreadyMember", "Answered", "Answers", "BadLadder", "BadLimits", "BadMoment", "BadName", "BadPath",
-    "BadTime", "Cause", "ClockBack", "ClockDoubt", "ClockEnd", "Closed", "ClosedSession", "Current", "DeadName", "DeletedName",
+    "BadTime", "Cause", "ClockBack", "ClockDoubt", "ClockEnd", "Closed", "ClosedSession", "Counts", "Current", "DeadName", "DeletedName",
     "DirectoryStat", "Drafting", "Due", "ElephantError", "Entry", "Exists", "Fate", "File", "FileStat", "Forgotten", "Full", "Future",
     "Gone", "Group", "GroupExists", "History", "HistoryFull", "IntoItself", "IsDirectory", "IsRoot", "JournalDamaged", "JournalError",
     "JournalLocked", "JournalLost", "KeepAll", "KeepOne", "KeepSafe", "Kept", "Landmarks", "Limits", "Mark", "Marked", "MarkExists",

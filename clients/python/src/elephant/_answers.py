@@ -23,6 +23,20 @@ class Limits(NamedTuple):
     marks: int = 10_000
 
 
+class Counts(NamedTuple):
+    """How many of each kind a store has ever made, as `Limits` counts them: open drafts are versions. Without a history `events` is 0."""
+
+    events: int
+    files: int
+    directories: int
+    names: int
+    versions: int
+    handles: int
+    groups: int
+    members: int
+    marks: int
+
+
 class Version(NamedTuple):
     """A held version: when its draft was opened, when it became current, and when it ended (None: it has not)."""
 

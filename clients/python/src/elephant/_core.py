@@ -9,7 +9,7 @@ from collections.abc import Callable, Iterator
 from ctypes import byref, c_uint64, c_void_p
 from typing import TYPE_CHECKING, Any, Optional, SupportsIndex
 
-from ._answers import Limits, Version
+from ._answers import Counts, Limits, Version
 from ._errors import (
     BadLimits,
     BadName,
@@ -27,7 +27,7 @@ from ._errors import (
     Untold,
     error_of,
 )
-from ._library import FILE_NAME, NOW, KeyRow, LimitsRow, StatRow, VersionRow, library
+from ._library import FILE_NAME, NOW, CountsRow, KeyRow, LimitsRow, StatRow, VersionRow, library
 from ._moments import Moment, moment_or_none
 from ._names import MOST_NAME
 from ._policies import KeepAll, KeepOne, KeepSafe, Landmarks, Policy
@@ -240,3 +240,8 @@ class Core:
     def now(self) -> int:
         """Returns the store's moment."""
         return self.look(self.library.elephant_now, "")
+
+    def counts(self) -> Counts:
+        """Returns what the limits count."""
+        row = self.row(self.library.elephant_counts, CountsRow, "")
+        return Counts(*(getattr(row, name) for name in Counts._fields))

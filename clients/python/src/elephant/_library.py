@@ -25,6 +25,7 @@ def _struct(name: str, fields: str) -> type[Structure]:
 
 # Printed by tools/pages/surface --write: the rows, from include/elephant.h.
 LimitsRow = _struct("LimitsRow", "events files directories names versions handles groups members marks")
+CountsRow = _struct("CountsRow", "events files directories names versions handles groups members marks")
 StatRow = _struct("StatRow", "is_directory id version opened closed ended length policy seconds floor rungs")
 VersionRow = _struct("VersionRow", "number opened closed ended length")
 NameRow = _struct("NameRow", "directory is_directory id name_length")

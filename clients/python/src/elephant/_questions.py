@@ -7,6 +7,7 @@ from typing import Any, Optional, SupportsIndex, Union
 
 from ._answers import (
     Answers,
+    Counts,
     Current,
     DeletedName,
     DirectoryStat,
@@ -185,6 +186,11 @@ class Questions(Turns):
             core = self._begin()
             rows = core.rows(core.library.elephant_row_usage, UsageRow, core.look(core.library.elephant_usage, ""))
             return [Usage(kind, row.files, row.versions, row.bytes, row.blocks) for kind, row in zip(_KINDS, rows)]
+
+    def counts(self) -> Counts:
+        """Returns how many of each kind were ever made. A limit of `Limits` less its count is what the store may still make."""
+        with self._lock:
+            return self._begin().counts()
 
     def groups(self) -> Groups:
         """Returns the groups with their files and marks, in order of making."""
