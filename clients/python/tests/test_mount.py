@@ -339,8 +339,8 @@ class Limits_(Case):
         it.store.group_make("m")
         # Each save makes a file, its empty version and one more; mkdir, two creates, a link and a rename make names.
         wanted = {"files": 2, "directories": 1, "names": 5, "versions": 4, "handles": 2, "groups": 0, "members": 0, "marks": 0}
-        self.assertEqual(it.store.counts.used, wanted)
-        self.assertEqual(self.mount().store.counts.used, {**wanted, "groups": 1})
+        self.assertEqual(it.store.quota.used, wanted)
+        self.assertEqual(self.mount().store.quota.used, {**wanted, "groups": 1})
 
     def test_a_full_disk_refuses_before_it_changes_anything(self) -> None:
         it = self.mount()
@@ -447,7 +447,7 @@ class Anew(Case):
         self.assertGreater(size, 2_000_000)
         self.assertLess(new.stat().st_size, 120_000)
         again = Mounted(new)
-        self.assertEqual((again.all(), again.store.counts.used), (before, it.store.counts.used))
+        self.assertEqual((again.all(), again.store.quota.used), (before, it.store.quota.used))
         with self.assertRaises(elephant.Forgotten):
             again.store.read("/f", version=5)
         again.close()

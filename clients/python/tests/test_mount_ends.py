@@ -15,7 +15,7 @@ from typing import Any, Union, cast
 from unittest import mock
 
 import elephant
-from elephant import Full, JournalError, JournalLost, KeepOne, KeepSafe, Limits, Moment, NoMemory
+from elephant import Counts as Made, Full, JournalError, JournalLost, KeepOne, KeepSafe, Limits, Moment, NoMemory
 from elephant._errors import LIMIT_NAMES
 from elephant.keeping import Core, Journal, changes_in, write_lines
 from elephant.mount import drafts, memory
@@ -181,10 +181,11 @@ class Lost(Case):
 
 class Ends(Case):
     def test_the_end_is_told_at_each_step_once(self) -> None:
-        counts = Counts(Limits(versions=1000, names=0))
+        made = Made(*[0] * len(Made._fields))
+        counts = Counts(Limits(versions=1000, names=0), lambda: made)
         told: list[tuple[int, str, str]] = []
         for used in range(1001):
-            counts.used["versions"] = used
+            made = made._replace(versions=used)
             told += [(used, text.split(" in 100 of the ")[0], text.split(" of the ")[1].split()[0]) for text in counts.news()]
         wanted = [(800, "80", "versions"), (900, "90", "versions"), (990, "99", "versions")]
         self.assertEqual([it for it in told if it[2] == "versions"], wanted)
@@ -193,47 +194,47 @@ class Ends(Case):
         it = self.mount(Limits(files=10))
         for number in range(9):
             it.make(b"f%d" % number)
-        self.assertEqual([text.split()[0] for text in it.store.counts.news()], ["90"])
-        self.assertEqual([text.split()[0] for text in self.mount(Limits(files=10)).store.counts.news()], ["90"])
+        self.assertEqual([text.split()[0] for text in it.store.quota.news()], ["90"])
+        self.assertEqual([text.split()[0] for text in self.mount(Limits(files=10)).store.quota.news()], ["90"])
         self.assertIn("files                9         1      90  its end is near\n", it.past.limits().decode())
 
     def test_the_last_of_each_limit_is_for_undo(self) -> None:
         it = self.mount(Limits(versions=400, names=300))
         for number in range(198):
             it.save(b"f", b"%d" % number)
-        while it.store.counts.left("versions"):
-            it.save(b"f", b"more%d" % it.store.counts.left("versions"))
-        self.assertEqual(it.store.counts.used["versions"], 396)
+        while it.store.quota.left("versions"):
+            it.save(b"f", b"more%d" % it.store.quota.left("versions"))
+        self.assertEqual(it.store.quota.used["versions"], 396)
         with self.assertRaises(Limited):
             it.save(b"f", b"too many")
         with self.assertRaises(Full) as caught:
             it.make(b"g")
-        self.assertEqual((caught.exception.what, it.store.counts.used["versions"]), ("versions", 396))
+        self.assertEqual((caught.exception.what, it.store.quota.used["versions"]), ("versions", 396))
         for _ in range(2):
             last = it.read(b"f")
             it.naming.unlink(it.top, b"f")
-            with it.store.counts.undoing():
+            with it.store.quota.undoing():
                 self.assertTrue(it.store.undelete(b"/f"))
             list(it.tree.refresh())
             self.assertEqual(it.read(b"f"), last)
-        with it.store.counts.undoing():
+        with it.store.quota.undoing():
             it.store.revert(b"/f", 3)
         list(it.tree.refresh())
-        self.assertEqual((it.read(b"f"), it.store.counts.used["versions"]), (b"1", 399))
+        self.assertEqual((it.read(b"f"), it.store.quota.used["versions"]), (b"1", 399))
 
     def test_a_removal_that_could_not_be_undone_is_refused(self) -> None:
         it = self.mount(Limits(versions=400))
         for name in (b"a", b"b", b"c", b"d", b"e", b"g"):
             it.save(name, name)
-        while it.store.counts.left("versions"):
-            it.save(b"f", b"%d" % it.store.counts.left("versions"))
+        while it.store.quota.left("versions"):
+            it.save(b"f", b"%d" % it.store.quota.left("versions"))
         removed = []
         with self.assertRaises(Full):
             for name in (b"a", b"b", b"c", b"d", b"e", b"g"):
                 it.naming.unlink(it.top, name)
                 removed.append(name)
         self.assertEqual(removed, [b"a", b"b", b"c", b"d"])
-        with it.store.counts.undoing():
+        with it.store.quota.undoing():
             for name in removed:
                 it.store.undelete(b"/" + name)
         list(it.tree.refresh())
@@ -244,7 +245,7 @@ class Ends(Case):
         for number in range(300):
             it.save(b"f%d" % number, b"x")
             it.naming.unlink(it.top, b"f%d" % number)
-        self.assertIsNone(it.store.counts.lacking_for_removal())
+        self.assertIsNone(it.store.quota.lacking_for_removal())
 
 
 def undo(it: Mounted, path: bytes) -> str:
@@ -366,9 +367,9 @@ class TakenBack(Case):
             it.store.undelete(b"/" + name)
             self.assertEqual(it.store.read(b"/" + name), b"later " + name)
         list(it.tree.refresh())
-        before = self.shown(it), dict(it.store.counts.used)
+        before = self.shown(it), dict(it.store.quota.used)
         it = self.mount()
-        self.assertEqual((self.shown(it), it.store.counts.used), before)
+        self.assertEqual((self.shown(it), it.store.quota.used), before)
         return failing.has_failed
 
     @staticmethod
@@ -480,7 +481,7 @@ class Anew(Case):
 
         def compared(lines: list[str], others: list[str], remarks: Iterable[bytes] = (), of_other: Iterable[bytes] = ()) -> None:
             old, new = counted(lines, remarks), counted(others, of_other)
-            left, right = (Side(it.core, it.records, it.counts, it) for it in (old, new))
+            left, right = (Side(it.core, it.records, it) for it in (old, new))
             compare(left, right, old, new)
 
         def counted(lines: list[str], remarks: Iterable[bytes]) -> Census:

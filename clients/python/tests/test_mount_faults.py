@@ -115,14 +115,14 @@ class Journals(Case):
         it = self.mount()
         it.save(b"f", b"one")
         self.assertEqual(it.store.revert(b"/f", 1), 3)
-        self.assertEqual(it.store.counts.used["versions"], 3)
+        self.assertEqual(it.store.quota.used["versions"], 3)
         it.naming.unlink(it.top, b"f")
         self.assertEqual(it.naming._revive(b"/f", 1), True)
-        used = dict(it.store.counts.used)
+        used = dict(it.store.quota.used)
         self.assertEqual(used["versions"], 4)
         it.store.close()
         self.mounted = None
-        self.assertEqual(self.mount().store.counts.used, used)
+        self.assertEqual(self.mount().store.quota.used, used)
 
     def test_a_new_journal_has_the_past_too(self) -> None:
         it, drawn, clock = self.mount(), random.Random(7), 2_000_000_000
@@ -316,10 +316,10 @@ class Exchanging(Case):
         node, folder = it.open(it.save(b"f", b"one"), writes=False), it.naming.mkdir(it.top, b"d", FOLDER, 0, 0)
         inner = it.naming.mkdir(folder, b"e", FOLDER, 0, 0)
         it.save(b"g", b"two", inner)
-        size, used = it.store.journal_size, it.store.counts.used["names"]
+        size, used = it.store.journal_size, it.store.quota.used["names"]
         it.naming.rename(it.top, b"f", folder, b"e", EXCHANGE)
         self.assertEqual(len(changes_since(self.journal, it, size)), 1)
-        self.assertEqual(it.store.counts.used["names"], used + 3)
+        self.assertEqual(it.store.quota.used["names"], used + 3)
         self.assertEqual((it.top.children[b"f"], folder.children[b"e"]), (inner, node))
         self.assertEqual((it.top.subdirectories, folder.subdirectories, inner.path, node.path), (2, 0, b"/f", b"/d/e"))
         it.contents.closed(node, False)

@@ -116,13 +116,13 @@ class Random(Case):
         self.assertGreater(changed, 1000)
 
     def compare(self, it: Mounted, moments: dict[int, dict[object, object]], drawn: random.Random) -> None:
-        before, used = it.all(), dict(it.store.counts.used)
+        before, used = it.all(), dict(it.store.quota.used)
         new, cut = self.journal.with_name("new"), self.journal.with_name("cut")
         shorten(str(self.journal), it.store.journal_size, str(new))
         it.close()
         for journal in (self.journal, new):
             again = Mounted(journal)
-            self.assertEqual((again.all(), again.store.counts.used), (before, used))
+            self.assertEqual((again.all(), again.store.quota.used), (before, used))
             for moment, wanted in moments.items():
                 self.assertEqual(files_at(again.past, moment), wanted)
             again.close()

@@ -273,7 +273,7 @@ class Reckoning(unittest.TestCase):
         for others in (["write 2 0 62"], [f"write 2 0 62{'61' * 1023}"]):
             old, new = Census(Core(Limits(), False)), self.ran([*lines, *others, "close 2"])
             old.run([it.encode() for it in [*lines, "write 2 0 62", "close 2"]])
-            sides = [Side(it.core, it.records, it.counts, it) for it in (old, new)]
+            sides = [Side(it.core, it.records, it) for it in (old, new)]
             if others == ["write 2 0 62"]:
                 compare(sides[0], sides[1], old, new)
                 continue

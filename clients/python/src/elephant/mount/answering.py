@@ -49,7 +49,7 @@ class Answering(pyfuse3.Operations):
             return next((number for number in (*FULL, errno.ENOMEM) if os.strerror(number) in str(fault)), errno.EIO)
         if isinstance(fault, Full):
             limit = fault.what
-            return self.errno_of(Limited(limit, getattr(self.store.counts.limits, limit)))
+            return self.errno_of(Limited(limit, getattr(self.store.quota.limits, limit)))
         if isinstance(fault, MemoryError):
             self.log.say_once("refused: there is no memory")
             return errno.ENOMEM
@@ -83,7 +83,7 @@ class Answering(pyfuse3.Operations):
 
     def say_ends(self) -> None:
         """Logs which limits of the store come near."""
-        for text in self.store.counts.news():
+        for text in self.store.quota.news():
             self.log.say(text)
 
 

@@ -12,7 +12,6 @@ from typing import TYPE_CHECKING, NamedTuple
 
 from .. import LAST_MOMENT, ElephantError, JournalError
 from ..keeping import Core, Replay
-from .counts import Counts
 from .records import Attributes, Records
 from .sharing import Sharing, compare_blocks
 
@@ -28,13 +27,12 @@ class Side(NamedTuple):
 
     core: Core
     records: Records
-    counts: Counts
     replay: Replay
 
 
 def compare(old: Side, new: Side, census: Census, made: Sharing) -> None:
     """Raises JournalError with the first difference. `census` has seen the old journal, and `made` the new one."""
-    _equal(*(iter([repr(sorted(it.counts.used.items())).encode()]) for it in (old, new)))
+    _equal(*(iter([repr(it.core.counts()).encode()]) for it in (old, new)))
     _equal(_attributes(old.records, new.records), _attributes(new.records, new.records))
     _equal(told(old.core), told(new.core))
     _equal(_sessions(old), _sessions(new))

@@ -94,9 +94,9 @@ class Contents:
         for name in ("versions", "handles"):
             if name in wanted:
                 wanted[name] += unopened
-        lacking = self.store.counts.lacking(**wanted)
+        lacking = self.store.quota.lacking(**wanted)
         if lacking is not None:
-            raise Limited(lacking, getattr(self.store.counts.limits, lacking))
+            raise Limited(lacking, getattr(self.store.quota.limits, lacking))
 
     def _set_pending(self, node: File, content: int) -> None:
         wanted = 2 * content + content // 200 + 512 if content else 0

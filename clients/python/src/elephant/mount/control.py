@@ -70,7 +70,7 @@ class Lines:
             changes: Changes = []
             try:
                 try:
-                    with self.store.counts.undoing(words[0] in _UNDOING):
+                    with self.store.quota.undoing(words[0] in _UNDOING):
                         text = self._undo(words) if words[0] == "undo" else self._line(words)
                 finally:  # the store may have done what the journal couldn't take
                     changes = [] if words[0] in _ASK | _SHORT else list(self._refreshed(words))
@@ -119,11 +119,8 @@ class Lines:
         answer = self.store.line(" ".join(words))
         if word in ("clean", "pass") or makes_name:
             self.store.forget_names()
-        if answer.startswith("ok ") and word not in _ASK and word not in ("close", "abandon"):
-            self.store.counts.take_line(" ".join(words).encode("ascii", "replace"))
-            self.store.counts.used["versions"] += answer.startswith("ok version ") and word == "undelete"
-            if makes_name:
-                self.store.counts.take_name(int(self.store.stat_row(as_bytes(words[1])).id))
+        if answer.startswith("ok ") and (word == "undelete" or word == "restore" and makes_name):
+            self.store.quota.note_return()
         return answer
 
     def _own_handles(self) -> set[str]:

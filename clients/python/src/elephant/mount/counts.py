@@ -2,11 +2,11 @@
 
 from __future__ import annotations
 
-from collections.abc import Iterator, Sequence
+from collections.abc import Callable, Iterator, Sequence
 from contextlib import contextmanager
 from typing import Optional
 
-from .. import Limits
+from .. import Counts as Made, Limits
 
 # The counts that each command raises by one.
 # Printed by tools/pages/surface --write: the counts, from ele_model/specs/Step.antt and ele_model/specs/Change.antt.
@@ -25,31 +25,19 @@ _OF_REMOVALS = ("names", "versions")
 
 
 class Counts:
-    """How much of each limit the store has used. A removal lowers no count."""
+    """How much of each limit the store has used, which the store itself counts, and how much is left."""
 
-    def __init__(self, limits: Limits) -> None:
-        self.limits = limits
-        self.used = dict.fromkeys(limits._fields[1:], 0)
-        self._said = dict.fromkeys(self.used, 0)
+    def __init__(self, limits: Limits, made: Callable[[], Made]) -> None:
+        self.limits, self._made = limits, made
+        self._said = dict.fromkeys(limits._fields[1:], 0)
         self._is_undoing, self._owed = False, 0
 
-    def take(self, words: bytes) -> None:
-        """Counts a command that was done, by its words before the first path."""
-        for name in TAKES.get(words, ()):
-            self.used[name] += 1
-        if words == b"undelete" and self._owed:
-            self._owed -= 1
-
-    def take_name(self, file: int) -> None:
-        """Counts the name that a save gave a file, and the file with its empty version if it is new."""
-        self.used["names"] += 1
-        if file > self.used["files"]:
-            self.used["files"] += 1
-            self.used["versions"] += 1
-
-    def take_line(self, line: bytes) -> None:
-        """Counts the line of an answered command."""
-        self.take(_command_of(line))
+    @property
+    def used(self) -> dict[str, int]:
+        """How much of each limit is used. Open drafts count as versions."""
+        used: dict[str, int] = self._made()._asdict()
+        del used["events"]
+        return used
 
     def kept_back(self, name: str) -> int:
         """Returns how much of a limit only `undo` may use."""
@@ -57,12 +45,16 @@ class Counts:
 
     def left(self, name: str) -> int:
         """Returns how much of a limit is left for what runs now."""
+        return self._left_after(name, self.used)
+
+    def _left_after(self, name: str, used: dict[str, int]) -> int:
         kept = 0 if self._is_undoing else self.kept_back(name)
-        return max(int(getattr(self.limits, name)) - kept - self.used[name], 0)
+        return max(int(getattr(self.limits, name)) - kept - used[name], 0)
 
     def lacking(self, **wanted: int) -> Optional[str]:
         """Returns a limit with less than that left, or None."""
-        return next((name for name, count in wanted.items() if self.left(name) < count), None)
+        used = self.used
+        return next((name for name, count in wanted.items() if self._left_after(name, used) < count), None)
 
     def lacking_for(self, commands: Sequence[bytes]) -> Optional[str]:
         """Does the same for commands, each by its words before the first path."""
@@ -100,17 +92,21 @@ class Counts:
         """Notes that a name was removed. In a full store its undo is owed."""
         self._owed += not all(self.left(name) for name in _OF_REMOVALS)
 
+    def note_return(self) -> None:
+        """Notes that a removed name came back, so that one undo less is owed."""
+        self._owed -= bool(self._owed)
+
     # How near the end is.
 
-    def percent(self, name: str) -> int:
+    def percent(self, name: str, used: int) -> int:
         limit = int(getattr(self.limits, name))
-        return self.used[name] * 100 // limit if limit else 100
+        return used * 100 // limit if limit else 100
 
     def news(self) -> list[str]:
         """Returns a sentence for each limit that has reached another of the steps since the last call."""
         found = []
-        for name in self.used:
-            reached = max((it for it in STEPS if it <= self.percent(name)), default=0)
+        for name, used in self.used.items():
+            reached = max((it for it in STEPS if it <= self.percent(name, used)), default=0)
             if reached > self._said[name]:
                 self._said[name] = reached
                 found.append(self._sentence(name, reached))
@@ -127,7 +123,7 @@ class Counts:
         """Returns the text of the file `limits`."""
         rows = ["limit             used      left  in 100\n"]
         for name, used in self.used.items():
-            reached = self.percent(name)
+            reached = self.percent(name, used)
             near = "  its end is near" if reached >= STEPS[0] and getattr(self.limits, name) else ""
             rows.append(f"{name:<12}{used:>10}{self.left(name):>10}{reached:>8}{near}\n")
         return "".join(rows)

@@ -95,7 +95,6 @@ class Drafts:
                 old = int(core.stat(path, path).version)
                 version = core.ask(core.library.elephant_save, path, path, len(path), content, len(content))
                 lines += (line, *remarks)
-                self._store.counts.take(b"save")
                 self._store.opposites.append(Opposite(partial(self._go_back, path, old)))
                 return version
         except JournalError as fault:
@@ -134,7 +133,6 @@ class Drafts:
         """Opens a handle that protects a version from removal."""
         with self._store.changing() as (core, lines):
             handle = core.ask(core.library.elephant_open_read, path, path, len(path), tag, number)
-            self._store.counts.take(b"open")
             lines.append(b"open read " + path + (b"", b"@%d", b"#%d")[tag] % ((number,) if tag else ()))
             return handle
 
@@ -153,7 +151,6 @@ class Drafts:
             except ElephantError:
                 lines.pop()
                 raise
-            self._store.counts.take(b"open")
             if file not in self._files.values():  # else there is a draft already, which may differ from the version
                 self._note_held(file, version, length, base)
             self._files[handle] = file
@@ -215,7 +212,6 @@ class Drafts:
         version = core.ask(core.library.elephant_close_handle, path or "", handle)
         lines.append(b"close %d" % handle)
         self._forget(handle)
-        self._store.counts.used["versions"] += bool(version)
         opposites[:] = [it for it in opposites if it.handle != handle]
         if version and path is not None:
             opposites.append(Opposite(partial(self._go_back, path, old)))
@@ -225,7 +221,6 @@ class Drafts:
         """Makes what a file held before a change its next version."""
         core.ask(core.library.elephant_revert, path, path, len(path), old)
         lines.append(b"revert %b %d" % (path, old))
-        self._store.counts.take(b"revert")
 
 
 def changed_parts(old: bytes, new: bytes) -> list[tuple[int, int]]:

@@ -93,7 +93,7 @@ class GoingOn:
         if file in self.tree.files:  # an undo has restored it, by another of its names
             return None
         drafts = len(self.contents.drafts)
-        lacks = self.store.counts.lacking(files=1, names=3, versions=4 + drafts, handles=3 + drafts)
+        lacks = self.store.quota.lacking(files=1, names=3, versions=4 + drafts, handles=3 + drafts)
         return None if lacks else file
 
     def _bring_back(self, path: bytes, past: Union[File, int]) -> int:
@@ -151,7 +151,7 @@ class GoingOn:
             return False
         drafts = len(self.contents.drafts)
         names = len(node.names) + len(found.names)
-        if self.store.counts.lacking(files=1, names=names, versions=4 + drafts, handles=4 + drafts):
+        if self.store.quota.lacking(files=1, names=names, versions=4 + drafts, handles=4 + drafts):
             return False
         return self._set_down(found)
 
@@ -159,7 +159,7 @@ class GoingOn:
         """Whether each of two files can get the content of the other as its next version."""
         alone = all(it.is_regular and len(it.names) == 1 for it in (node, found))
         drafts = len(self.contents.drafts)
-        if not alone or self.store.counts.lacking(versions=4 + drafts, handles=4 + drafts):
+        if not alone or self.store.quota.lacking(versions=4 + drafts, handles=4 + drafts):
             return False
         return self._set_down(node) and self._set_down(found)
 

@@ -451,12 +451,12 @@ class Operations(Answering):
 
     @answered
     def statfs(self, context: Any) -> Any:
-        disk, it, counts = self.store.disk(), pyfuse3.StatvfsData(), self.store.counts
+        disk, it, quota = self.store.disk(), pyfuse3.StatvfsData(), self.store.quota
         it.f_bsize = it.f_frsize = 4096
         it.f_blocks = disk.f_blocks * disk.f_frsize // 4096
         # A content takes twice its bytes in the journal.
         it.f_bfree = it.f_bavail = 0 if self.store.stopped else disk.f_bavail * disk.f_frsize // 8192
-        it.f_files = counts.limits.files
-        it.f_ffree = it.f_favail = min(counts.left("files"), counts.left("names"), counts.left("versions") // 2)
+        it.f_files = quota.limits.files
+        it.f_ffree = it.f_favail = min(quota.left("files"), quota.left("names"), quota.left("versions") // 2)
         it.f_namemax = NAME_MAX
         return it

@@ -342,7 +342,7 @@ class Past:
 
     def limits(self) -> bytes:
         """Returns the text of the file `limits`."""
-        return (self.store.counts.text() + self.notes()).encode()
+        return (self.store.quota.text() + self.notes()).encode()
 
 
 def _add_name(names: dict[bytes, Key], spelling: bytes, key: Key) -> bool:

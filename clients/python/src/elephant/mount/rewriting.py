@@ -42,7 +42,7 @@ class Rewriting:
         with self.operations.lock:
             size = self.store.journal_size
             held = sum(it.blocks for it in self.store.usage()) * 512
-            least = 2 * held + COMMANDS_OF_VERSION * self.store.counts.used["versions"]
+            least = 2 * held + COMMANDS_OF_VERSION * self.store.quota.used["versions"]
             return size > max(LEAST_BYTES, 2 * least, self._tried * GROWTH) and not self.store.stopped
 
     def run_if_worth(self) -> None:

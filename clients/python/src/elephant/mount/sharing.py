@@ -12,9 +12,8 @@ from contextlib import suppress
 from itertools import chain, count
 from typing import NamedTuple
 
-from .. import ElephantError, JournalError, Limits
+from .. import ElephantError, JournalError
 from ..keeping import AT, NOW, Core
-from .counts import Counts
 from .records import Records
 from .witness import Witness
 
@@ -66,7 +65,7 @@ class Sharing(Witness):
     """Runs a journal, and notes the slots of what is held."""
 
     def __init__(self, core: Core) -> None:
-        super().__init__(core, Records(), Counts(Limits()))
+        super().__init__(core, Records())
         self.contents: dict[Version, Content] = {}
         """Of each held version."""
         self.drafts: dict[int, Draft] = {}
@@ -121,6 +120,12 @@ class Sharing(Witness):
         word, *words = line.split(b" ")
         if word in (b"clean", b"pass"):
             return self.remove(1 if word == b"clean" else int(words[0]))
+        if word == b"undelete":
+            return self.undelete(words[0])
+        if word == b"save":
+            return self.save(line, words[0])
+        if word == b"restore":
+            return self.restore(line, words[0], words[1])
         code = super().command(line)
         if not code and word in (b"create", b"revert"):
             row = self.core.stat(words[0], words[0])
@@ -129,7 +134,7 @@ class Sharing(Witness):
         return code
 
     def save(self, line: bytes, path: bytes) -> int:
-        code = super().save(line, path)
+        code = super().command(line)
         if not code:
             row = self.core.stat(path, path)
             self._note_saved(int(row.id), int(row.version), int(row.length))
@@ -142,7 +147,7 @@ class Sharing(Witness):
 
     def restore(self, line: bytes, path: bytes, moment: bytes) -> int:
         source = self._held_then(path, int(moment))
-        code = super().restore(line, path, moment)
+        code = super().command(line)
         if not code:
             row = self.core.stat(path, path)
             file, version = int(row.id), int(row.version)
@@ -167,7 +172,7 @@ class Sharing(Witness):
         return 0, 0
 
     def undelete(self, path: bytes) -> int:
-        code = super().undelete(path)
+        code: int = self.library.elephant_undelete(self.core.handle, path, len(path), self.core.number_at)
         number = self.core.number
         if not code and number:
             file = int(self.core.stat(path, path).id)

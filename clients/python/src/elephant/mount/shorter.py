@@ -218,7 +218,7 @@ def shorten(old: str, size: int, new: str) -> None:
     made = Sharing(Core(Limits(), False))
     for change in changes_in(new, os.path.getsize(new)):
         made.run(change)
-    sides = Side(core, census.records, census.counts, shortening), Side(made.core, made.records, made.counts, made)
+    sides = Side(core, census.records, shortening), Side(made.core, made.records, made)
     compare(*sides, census, made)
 
 

@@ -1,12 +1,12 @@
-"""The store of a mount: its journal also stores attributes, its limits are counted, and what ended is remembered."""
+"""The store of a mount: its journal also stores attributes, a part of its limits is kept back, and what ended is remembered."""
 
 from __future__ import annotations
 
 from collections.abc import Callable, Iterator, Sequence
 from functools import partial
-from typing import Any, NamedTuple, Optional, SupportsIndex
+from typing import Any, NamedTuple, Optional
 
-from .. import ElephantError, Full, Limits, NoEntry
+from .. import Closed, Counts as Made, ElephantError, Full, Limits, NoEntry
 from ..keeping import Clock, Core, KeepingStore, Lines, Opposite, Path, Replay
 from .chronicle import Chronicle
 from .counts import Counts
@@ -39,7 +39,7 @@ class _MountReplay(Witness):
     """Runs a journal again, and notes for the mount which names ended."""
 
     def __init__(self, core: Core, store: MountStore) -> None:
-        super().__init__(core, store.records, store.counts)
+        super().__init__(core, store.records)
         self._store = store
         self._given = b""
 
@@ -65,7 +65,7 @@ class MountStore(KeepingStore):
         self, journal: str, limits: Optional[Limits] = None, read_only: bool = False, clock: Clock = "system", at: Optional[str] = None
     ) -> None:
         self.records = Records()
-        self.counts = Counts(limits or Limits())
+        self.quota = Counts(limits or Limits(), self._made)
         self.chronicle = Chronicle()
         self.memory = Memory()
         self.drafts = Drafts(self)
@@ -79,7 +79,6 @@ class MountStore(KeepingStore):
         super().__init__(journal, limits, read_only, clock, at)
         if read_only:
             self.stopped = READ_ONLY
-        self.counts.used["versions"] += sum(it.version is not None for it in self.recovered.closed)
 
     def new_replay(self, core: Core) -> Replay:
         return _MountReplay(core, self)
@@ -108,6 +107,13 @@ class MountStore(KeepingStore):
 
     # Limits.
 
+    def _made(self) -> Made:
+        """Returns what the limits count. The clock stays, so it may be asked within a change."""
+        with self._lock:
+            if self._core is None:
+                raise Closed("the store")
+            return self._core.counts()
+
     @staticmethod
     def _require(lacking: Optional[str]) -> None:
         if lacking is not None:
@@ -117,14 +123,9 @@ class MountStore(KeepingStore):
 
     def _require_left(self, *words: bytes) -> None:
         """Raises Full unless commands leave what is kept back for `undo`."""
-        self._require(self.counts.lacking_for(words))
+        self._require(self.quota.lacking_for(words))
         if len(words) == 1 and words[0] in _REMOVALS:
-            self._require(self.counts.lacking_for_removal())
-
-    def _take(self, word: bytes, number: int = 0) -> None:
-        """Counts a command that was done, and the version that an `undelete` made; `number` is the command's."""
-        self.counts.take(word)
-        self.counts.used["versions"] += word == b"undelete" and number > 0
+            self._require(self.quota.lacking_for_removal())
 
     # Commands.
 
@@ -141,26 +142,20 @@ class MountStore(KeepingStore):
 
     def line(self, line: str) -> str:
         spelled = line.encode("utf-8", "surrogateescape")
-        self._require(self.counts.lacking_for_line(spelled))
+        self._require(self.quota.lacking_for_line(spelled))
         is_removal = spelled.startswith((b"unlink ", b"rmdir "))
         if is_removal:
-            self._require(self.counts.lacking_for_removal())
+            self._require(self.quota.lacking_for_removal())
         answer = super().line(line)
         if is_removal and answer.startswith("ok "):
-            self.counts.note_removal()
+            self.quota.note_removal()
         return answer
 
     def undelete(self, path: Path) -> Optional[int]:
         """Restores a deleted name. Returns the number of the version that a file without a name gets, else None."""
         version = super().undelete(path)
-        self._take(b"undelete", version or 0)
+        self.quota.note_return()
         return version
-
-    def revert(self, path: Path, version: SupportsIndex) -> int:
-        """Makes an older content the newest version, and returns its number."""
-        made = super().revert(path, version)
-        self._take(b"revert")
-        return made
 
     def do(self, core: Core, lines: Lines, word: bytes, *words: bytes) -> int:
         """Runs a command of a change, adds its line and notes its opposite. Returns its number."""
@@ -175,9 +170,10 @@ class MountStore(KeepingStore):
             lines.pop()
             self.break_off("memory ran out within a command")
             raise
-        self._take(word, number)
         if word in _REMOVALS:
-            self.counts.note_removal()
+            self.quota.note_removal()
+        elif word == b"undelete":
+            self.quota.note_return()
         self.opposites.append(Opposite(opposite))
         return number
 
@@ -195,9 +191,10 @@ class MountStore(KeepingStore):
     def _redo(self, *command: Any) -> None:
         """Runs a command that takes back another, without an opposite of its own."""
         *words, core, lines = command
-        number = self._command(core, words[0], words[1:])
+        self._command(core, words[0], words[1:])
         lines.append(b" ".join(words))
-        self._take(words[0], number)
+        if words[0] == b"undelete":
+            self.quota.note_return()
 
     def _remove(self, path: bytes, core: Core, lines: Lines) -> None:
         self._redo(b"rmdir" if core.stat(path, path).is_directory else b"unlink", path, core, lines)

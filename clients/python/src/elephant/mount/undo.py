@@ -292,7 +292,7 @@ class Undo:
         """Raises Nothing unless the limits allow all steps and so many new contents."""
         words = [it.word for it in steps]
         made = words.count("create")
-        lacking = self.store.counts.lacking(
+        lacking = self.store.quota.lacking(
             files=made, directories=words.count("mkdir"), names=len(words) - words.count("unlink"),
             versions=made + words.count("undelete") + contents, handles=made,
         )
