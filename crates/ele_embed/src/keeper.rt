@@ -51,7 +51,7 @@ impl Keep for Keeper {
 
     fn explain(&self, alloc: Global, question: &Question) -> Said {
         match self {
-            Keeper::Plain(core, _) => explain_alone(alloc, question, core, core.due_first()),
+            Keeper::Plain(core, _) => explain_alone(question, core),
             Keeper::Recorded(history) => history.explain(alloc, question),
         }
     }

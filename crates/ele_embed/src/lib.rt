@@ -125,7 +125,7 @@ impl Store {
     }
 
     /// Answers which versions will be due at a moment, or with the fault in its place. The store stays. It
-    /// takes no memory if the moment is now and nothing is due.
+    /// takes no memory if no version is due by then.
     pub fn ahead(&mut self, asked: Result<Moment, LineFault>)
         ensures ahead { TellsAhead (world_in self.old.state) asked self.new.said }
         ensures state { self.new.state ≡ self.old.state }
@@ -133,9 +133,7 @@ impl Store {
     {
         match asked {
             Ok(moment) => {
-                let core = self.keeper.core();
-                let question = Question::Ahead(moment);
-                self.said = explain_alone(self.alloc, &question, core, core.due_first());
+                self.said = explain_alone(&Question::Ahead(moment), self.keeper.core());
             }
             Err(fault) => self.said = Said::Bad(fault),
         }

@@ -1,9 +1,7 @@
 -- Answers to events and questions, over a history or a core alone.
-use Rattle.ele_runs.proofs.Basics.{◌≡◌, ◌≢◌, ℕ, List, [], ◌∷◌, Option, None, Ok, refl, sym, slice_get}
-use Rattle.std.proofs.Math.Nat.{le_refl}
+use Rattle.ele_runs.proofs.Basics.{ℕ, Option}
 use Rattle.ele_history.specs.Past.{Past, world_of}
 use Rattle.ele_history.specs.Reply.{MayStop}
-use Rattle.ele_model.specs.Scan.{first_due, scan}
 use Rattle.ele_model.specs.World.{World}
 use Rattle.ele_model.specs.declared.event.Event.{Event}
 use Rattle.ele_model.specs.declared.refusal.Stop.{Stop}
@@ -26,17 +24,8 @@ ahead_recorded past moment (Ahead told) says = says
 ahead_recorded past moment (Stopped stop) says = says
 ahead_recorded past moment said says = absurd says
 
--- and over a core alone, if it isn't asked what is due now, or something is
-pub ahead_alone : (w : World) (last : Option Reply) (moment : ℕ) (said : Said) → (moment ≡ w.now → scan w ≢ []) → SaysAhead w moment said → Explains (Plain w last) (question.Ahead moment) said
-ahead_alone w last moment (Ahead told) due says = says
-ahead_alone w last moment (Stopped stop) due says = (says.0, record { ahead = says.1; due = due })
-ahead_alone w last moment said due says = absurd says
-
--- a list without a first item is empty
-no_first : {A : Type 0} (xs : List A) → slice_get xs 0 ≡ None → xs ≡ []
-no_first [] none = refl
-no_first (x ∷ xs) none = absurd cc
-
--- nothing is due now
-pub nothing_ahead : (w : World) (last : Option Reply) (moment : ℕ) → moment ≡ w.now → first_due w ≡ None → Explains (Plain w last) (question.Ahead moment) (Ahead (Ok []))
-nothing_ahead w last moment is none = rw is (le_refl w.now, sym (no_first (scan w) none))
+-- and over a core alone
+pub ahead_alone : (w : World) (last : Option Reply) (moment : ℕ) (said : Said) → SaysAhead w moment said → Explains (Plain w last) (question.Ahead moment) said
+ahead_alone w last moment (Ahead told) says = says
+ahead_alone w last moment (Stopped stop) says = says
+ahead_alone w last moment said says = absurd says

@@ -5,6 +5,7 @@ use Rattle.ele_audit.specs.Open.{AreOpen}
 use Rattle.ele_audit.specs.Removals.{AreRemoved, HasRemovals, IsRemovedVersion, MayBeRemoved}
 use Rattle.ele_audit.specs.declared.row.Removed.{Removed}
 use Rattle.ele_history.specs.Past.{Past, world_of}
+use Rattle.ele_model.specs.Change.{Time, after_change}
 use Rattle.ele_model.specs.Scan.{scan}
 use Rattle.ele_model.specs.Why.{IsAhead, IsWhy}
 use Rattle.ele_model.specs.World.{World}
@@ -53,16 +54,15 @@ pub record IsWhyRemoved (past : Past) (tagged : TaggedPath) (row : Removed) : Ty
   pub why : IsWhy (world_of past) tagged (Err (Forgotten number))
   pub removed : IsRemovedVersion past tagged (Some row)
 
--- the keys that will be due at a moment take memory: it hasn't passed, and if it is the current one, some version is due
-pub record TakesKeys (w : World) (moment : ℕ) : Type 0 where
-  pub ahead : w.now ≤ moment
-  pub due : moment ≡ w.now → scan w ≢ []
+-- the keys that will be due at a moment take memory: it hasn't passed, and some version is due by then
+abbrev pub TakesKeys : World → ℕ → Type 0
+TakesKeys w moment = (w.now ≤ moment) × (scan (after_change w (Time moment)) ≢ [])
 
--- a question may take memory. With a history: `why` if a stored entry removed a version with that number, `ahead` of a moment that
--- hasn't passed, `gone` after a removal, `handles` while one is open. Without: only `ahead`
+-- a question may take memory. With a history: `why` if a stored entry removed a version with that number, `gone` after a removal,
+-- `handles` while one is open. With one or without: `ahead`
 abbrev pub MayTake : Kept → Question → Type 0
 MayTake (Recorded past) (question.Why tagged) = MayBeRemoved past tagged.tag
-MayTake (Recorded past) (question.Ahead moment) = (world_of past).now ≤ moment
+MayTake (Recorded past) (question.Ahead moment) = TakesKeys (world_of past) moment
 MayTake (Recorded past) question.Gone = HasRemovals past
 MayTake (Recorded past) question.Handles = (world_of past).handles ≢ []
 MayTake (Plain w last) (question.Ahead moment) = TakesKeys w moment
@@ -195,8 +195,8 @@ Explains kept asked (Stopped stop) = (stop ≡ NoMemory) × MayTake kept asked
 Explains kept asked (Bad fault) = (fault ≡ Syntax) × (has_past kept ≡ false) × IsOfPast asked
 Explains kept asked said = Says said kept asked
 
--- the keys that will be due at a moment; memory may stop that only if the moment hasn't passed
+-- the keys that will be due at a moment; memory may stop that only if the moment hasn't passed, and there is one
 abbrev pub SaysAhead : World → ℕ → Said → Type 0
 SaysAhead w moment (Ahead told) = IsAhead w moment told
-SaysAhead w moment (Stopped stop) = (stop ≡ NoMemory) × (w.now ≤ moment)
+SaysAhead w moment (Stopped stop) = (stop ≡ NoMemory) × TakesKeys w moment
 SaysAhead w moment said = ⊥

@@ -3,7 +3,6 @@
 ghost use Rattle.std.specs.Prelude.{◌≡◌, Err, List, None, Option, ℕ};
 ghost use Rattle.std.specs.Option.{option_copied, option_map};
 ghost use Rattle.ele_history.specs.Past.{world_of};
-ghost use Rattle.ele_model.specs.Scan.{first_due};
 ghost use Rattle.ele_model.specs.Why.{IsWhy};
 ghost use Rattle.ele_model.specs.declared.refusal.Refusal.TheVariants.{Forgotten};
 ghost use Rattle.ele_output.specs.Prints.{Prints};
@@ -19,7 +18,7 @@ use ele_audit::{
     removed_version,
 };
 use ele_history::History;
-use ele_model::{Entry, Explain, Fate, Key, KeyList, Moment, PassEnd, Refusal, Reply, Stop};
+use ele_model::{Entry, Explain, Fate, KeyList, Moment, PassEnd, Refusal, Reply, Stop};
 use ele_output::Printer;
 use ele_path::TaggedPath;
 use ele_printer::{
@@ -134,35 +133,15 @@ pub(crate) fn explain<C: Explain>(alloc: Global, question: &Question, history: &
     }
 }
 
-/// Answers a question about a core alone, with the first key that is due now.
-pub fn explain_alone<C: Explain>(
-    alloc: Global,
-    question: &Question,
-    core: &C,
-    due: Option<Key>,
-) -> Said
-    requires { due ≡ first_due (C.world core.now) }
+/// Answers a question about a core alone.
+#[tactic(auto, using(crate::proofs::Questions::ahead_alone))]
+pub fn explain_alone<C: Explain>(question: &Question, core: &C) -> Said
     ensures { Explains (Plain (C.world core.now) None) question.now result }
 {
     match question {
         Question::Why(tagged) => Said::Why(core.fate_at(tagged)),
-        Question::Ahead(moment) => ahead_alone(alloc, *moment, core, due),
+        Question::Ahead(moment) => explain_ahead(*moment, core),
         Question::Gone | Question::Handles | Question::Answers => Said::Bad(LineFault::Syntax),
-    }
-}
-
-// Returns what will be due at the moment. It takes no memory if the moment is now and nothing is due.
-#[tactic(auto, using(crate::proofs::Questions::ahead_alone))]
-fn ahead_alone<C: Explain>(alloc: Global, moment: Moment, core: &C, due: Option<Key>) -> Said
-    requires { due ≡ first_due (C.world core.now) }
-    ensures { Explains (Plain (C.world core.now) None) (question.Ahead moment) result }
-{
-    if moment != core.now() {
-        return explain_ahead(moment, core);
-    }
-    match due {
-        Some(_) => explain_ahead(moment, core),
-        None => Said::Ahead(Ok(KeyList::new(alloc))),
     }
 }
 
@@ -195,7 +174,7 @@ fn explain_forgotten<C: Explain>(
     }
 }
 
-// Returns what will be due at the moment.
+// Returns what will be due at the moment. It takes no memory if nothing is due by then.
 fn explain_ahead<C: Explain>(moment: Moment, core: &C) -> Said
     ensures { SaysAhead (C.world core.now) moment result }
 {
