@@ -4,7 +4,8 @@ use Rattle.std.proofs.lemmas.Bool.{cases_Bool}
 use Rattle.std.proofs.lemmas.Bool.Decides.{nat_tests}
 use Rattle.ele_shared_history.specs.Running.{has}
 use Rattle.ele_shared_history.specs.Knowledge.{Knowledge, Object}
-use Rattle.ele_shared_history.specs.Seats.{AreAllNew, AreApart, AreDealt, AreNew, IsNew, SplitOff}
+use Rattle.ele_shared_history.specs.Dealt.{AreDealt}
+use Rattle.ele_shared_history.specs.Seats.{AreAllNew, AreApart, AreNew, IsNew, SplitOff}
 
 has_last : (ns : List ℕ) (m n : ℕ) → has (ns ++ m ∷ []) n ≡ true → (has ns n ≡ true) ⊎ (m ≡ n)
 has_last [] m n h = inr (grind (arith, nat_tests))

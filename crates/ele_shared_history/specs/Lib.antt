@@ -4,5 +4,6 @@ pub mod Knowledge
 pub mod Rule
 pub mod Running
 pub mod Seats
+pub mod Dealt
 pub mod Steps
 pub mod Told

@@ -3,14 +3,6 @@ use Rattle.std.specs.Prelude.{◌≡◌, ℕ, List, [], ◌∷◌, ◌++◌, tru
 use Rattle.ele_shared_history.specs.Knowledge.{Knowledge, Object}
 use Rattle.ele_shared_history.specs.Running.{has, own_of, StartsWith}
 
--- the first seat: number 0, an empty view, no calls
-pub record IsFirst (object : Object) (k : Knowledge) : Type 0 where
-  pub of : k.object ≡ object
-  pub numbers : k.numbers ≡ 0 ∷ []
-  pub view : k.view ≡ []
-  pub own : k.own ≡ []
-  pub known : k.known ≡ 0 ∷ []
-
 -- a new seat with this number
 pub record IsNew (object : Object) (number : ℕ) (k : Knowledge) : Type 0 where
   pub of : k.object ≡ object
@@ -33,18 +25,6 @@ AreApart (n ∷ ns) = (has ns n ≡ false) × AreApart ns
 -- new seats, each with a number of its own
 abbrev pub AreAllNew : Object → List Knowledge → Type 0
 AreAllNew object ks = (ns : List ℕ) × AreNew object ns ks × AreApart ns
-
--- one more new seat, with a number apart from these, which knows all of them
-pub record IsNext (object : Object) (ns : List ℕ) (k : Knowledge) : Type 0 where
-  pub number : ℕ
-  pub new : IsNew object number k
-  pub other : has ns number ≡ false
-  pub itself : has k.known number ≡ true
-  pub others : (n : ℕ) → has ns n ≡ true → has k.known n ≡ true
-
--- new seats, followed by one more
-abbrev pub AreDealt : Object → List Knowledge → Knowledge → Type 0
-AreDealt object ks last = (ns : List ℕ) × AreNew object ns ks × AreApart ns × IsNext object ns last
 
 -- a seat with a number of its own and no calls, which has seen what the old one has
 pub record SplitOff (old new : Knowledge) : Type 0 where

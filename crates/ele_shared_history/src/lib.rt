@@ -6,7 +6,8 @@ ghost use Rattle.std.specs.Prelude.{◌≡◌, ◌+◌, ◌%◌, ◌<◌, ◌≤
 ghost use Rattle.ele_shared_history.specs.Calling.{Called, StoppedBy, TriedBy};
 ghost use Rattle.ele_shared_history.specs.Closing.{Closes};
 ghost use Rattle.ele_shared_history.specs.Knowledge.{IsTrue, Looked, count_seen};
-ghost use Rattle.ele_shared_history.specs.Seats.{AreAllNew, AreDealt, IsFirst, Joined, SplitOff};
+ghost use Rattle.ele_shared_history.specs.Dealt.{AreDealt, IsFirst};
+ghost use Rattle.ele_shared_history.specs.Seats.{AreAllNew, Joined, SplitOff};
 ghost use Rattle.ele_shared_history.specs.Running.{AgreeBy};
 
 mod ledger;

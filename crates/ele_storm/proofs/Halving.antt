@@ -14,7 +14,8 @@ use Rattle.ele_storm.specs.Halves.{RunsWorkers, size_before}
 use Rattle.ele_storm_plan.specs.Plan.{storm_events, task_of, workers_of}
 use Rattle.ele_storm.specs.Rounds.{AreRounds, round_size}
 use Rattle.ele_storm.specs.Storm.{AddsStorm, AreOfWorkers, IsWoven, prepared}
-use Rattle.ele_storm.specs.Work.{AddsCalls, Makes, SeesMore, MakesOne, RunsRounds, Works}
+use Rattle.ele_storm.specs.Making.{Makes, MakesOne, RunsRounds}
+use Rattle.ele_storm.specs.Work.{AddsCalls, SeesMore, Works}
 use Rattle.ele_storm_plan.specs.declared.plan.Task.{Task}
 use Rattle.ele_storm.proofs.Counts.{calls_of_both}
 use Rattle.ele_storm.proofs.Sizes.{events_next, events_of_all, length-rounds, none_before}

@@ -19,7 +19,8 @@ use Rattle.ele_storm_plan.specs.declared.fault.StormFault.{StormFault}
 use Rattle.ele_storm_plan.specs.declared.plan.Task.{Task}
 use Rattle.ele_storm_plan.specs.declared.plan.Task.TheVariants.{Cleaner}
 use Rattle.ele_storm.specs.Rounds.{file_of, handle_in, looks, tagged, writes}
-use Rattle.ele_storm.specs.Work.{AddsCalls, SeesMore, Makes, MakesOne, RunsRound, RunsRounds}
+use Rattle.ele_storm.specs.Making.{Makes, MakesOne, RunsRound, RunsRounds}
+use Rattle.ele_storm.specs.Work.{AddsCalls, SeesMore}
 use Rattle.ele_shared_history.proofs.Histories.{entries_of-append}
 
 pub starts_trans : {A : Type 0} (a b c : List A) → StartsWith a b → StartsWith b c → StartsWith a c

@@ -3,3 +3,4 @@ pub mod Halves
 pub mod Rounds
 pub mod Storm
 pub mod Work
+pub mod Making

@@ -3,7 +3,8 @@ ghost use Rattle.std.specs.Prelude.{◌≡◌, ◌+◌, [], IfOk, OnOk, length};
 ghost use Rattle.ele_shared_history.specs.Running.{StartsWith, entries_of};
 ghost use Rattle.ele_storm_plan.specs.Plan.{storm_events};
 ghost use Rattle.ele_storm.specs.Storm.{AddsStorm, prepared, storm_policy};
-ghost use Rattle.ele_storm.specs.Work.{Makes, SeesMore};
+ghost use Rattle.ele_storm.specs.Making.{Makes};
+ghost use Rattle.ele_storm.specs.Work.{SeesMore};
 
 use crate::events::file_of;
 use crate::halves::run;

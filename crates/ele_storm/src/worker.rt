@@ -5,7 +5,8 @@ ghost use Rattle.ele_shared_history.specs.Running.{entry};
 ghost use Rattle.ele_storm_plan.specs.declared.fault.StormFault.TheVariants as storm;
 ghost use Rattle.ele_storm_plan.specs.Plan.{task_of, workers_of};
 ghost use Rattle.ele_storm.specs.Rounds.{looks, round_size, writes};
-ghost use Rattle.ele_storm.specs.Work.{AddsCalls, FailsWorker, SeesMore, Makes, MakesOne, RunsRound, RunsRounds, StopsWorker, Works};
+ghost use Rattle.ele_storm.specs.Making.{Makes, MakesOne, RunsRound, RunsRounds};
+ghost use Rattle.ele_storm.specs.Work.{AddsCalls, FailsWorker, SeesMore, StopsWorker, Works};
 
 use crate::events::{bytes_of, file_of, handle_in, tagged_file};
 use crate::meet::{Meet, MeetEnd};

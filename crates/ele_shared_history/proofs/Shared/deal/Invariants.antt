@@ -1,5 +1,5 @@
 use Rattle.std.proofs.Common.{◌≡◌, ◌+◌, ◌≤◌, vec_len, vec_capacity}
-use Rattle.ele_shared_history.specs.Seats.{AreDealt}
+use Rattle.ele_shared_history.specs.Dealt.{AreDealt}
 use Rattle.ele_shared_history.proofs.Shared.deal.Given as goal
 
 abbrev pub invariant-loop : goal.invariant-loop

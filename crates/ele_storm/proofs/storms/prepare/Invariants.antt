@@ -1,7 +1,8 @@
 use Rattle.std.proofs.Common.{◌≡◌, ◌+◌, ◌∷◌, [], length}
 use Rattle.ele_model.specs.declared.event.Event.TheVariants.{SetDefault}
 use Rattle.ele_storm.specs.Storm.{creates, storm_policy}
-use Rattle.ele_storm.specs.Work.{Makes, SeesMore}
+use Rattle.ele_storm.specs.Making.{Makes}
+use Rattle.ele_storm.specs.Work.{SeesMore}
 use Rattle.ele_storm.proofs.storms.prepare.Given as goal
 
 abbrev pub invariant-loop-writer : goal.invariant-loop-writer

@@ -1,4 +1,5 @@
-use Rattle.ele_storm.specs.Work.{SeesMore, RunsRounds}
+use Rattle.ele_storm.specs.Making.{RunsRounds}
+use Rattle.ele_storm.specs.Work.{SeesMore}
 use Rattle.ele_storm.proofs.worker.run_rounds.Given as goal
 
 abbrev pub invariant-loop-round : goal.invariant-loop-round
