@@ -21,7 +21,7 @@ STORM_FAULT = "crates/ele_storm_plan/src/fault.rt"
 CODES, TAGS, CALLS, KINDS, OF_LIMITS = (f"crates/ele_c_values/src/{it}.rt" for it in ("codes", "asks", "call", "kind", "limits"))
 # Where answers become numbers: a comment has the columns of each row.
 KEPT, NAMES, GROUPS, STATS, FATES, COUNTS = (
-    f"crates/ele_c_values/src/{it}.rt" for it in ("kept", "names", "groups", "stats", "fates", "counts")
+    f"crates/ele_c_values/src/{it}.rt" for it in ("kept", "names", "groups", "stats", "fates", "limits")
 )
 NUMBER_RULES = "crates/ele_c_values/specs/Numbers.antt"
 # What has a number: its source, and the type that has it. Another type may have the numbers of memory and of a full history too.

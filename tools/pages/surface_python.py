@@ -160,9 +160,14 @@ def pairs_by_hand(tree: Tree, facts: Facts) -> Iterator[str]:
 
 
 def answers(tree: Tree, facts: Facts, _: Declared) -> str:
-    """Returns the file with the limits of a store."""
-    old = match_in(r"(?s)class Limits\(NamedTuple\):\n    \"\"\".*?\"\"\"\n\n(.*?)\n\n", tree[ANSWERS])[1]
-    return tree[ANSWERS].replace(old, "\n".join(f"    {name}: int = {most:_}" for name, most in facts.most().items()))
+    """Returns the file with the limits of a store, and with what they count."""
+    limits, counts = (_fields_of(name, tree[ANSWERS]) for name in ("Limits", "Counts"))
+    text = tree[ANSWERS].replace(limits, "\n".join(f"    {name}: int = {most:_}" for name, most in facts.most().items()))
+    return text.replace(counts, "\n".join(f"    {name}: int" for name in facts.most()))
+
+
+def _fields_of(name: str, text: str) -> str:
+    return match_in(rf"(?s)class {name}\(NamedTuple\):\n    \"\"\".*?\"\"\"\n\n(.*?)\n\n", text)[1]
 
 
 PRINTED = {

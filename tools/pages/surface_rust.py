@@ -126,7 +126,12 @@ def values(tree: Tree, facts: Facts) -> str:
     said.update({name: it for it, name in re.findall(r"    /// (.*): at most .*\n    pub (\w+):", struct)})
     fields = "".join(f"    /// {said[name]}: at most {most:,}.\n    pub {name}: u64,\n" for name, most in facts.most().items())
     numbers = "".join(f"            {name}: {most:_},\n" for name, most in facts.most().items())
-    return text.replace(struct, fields).replace(default, numbers)
+    text = text.replace(struct, fields).replace(default, numbers)
+    counts = match_in(r"(?s)pub struct Counts \{\n(.*?)\}\n", text)[1]
+    given = match_in(r"(?s)elephant_counts_row\) -> Counts \{\n        Counts \{\n(.*?)        \}\n", text)[1]
+    said.update({name: it for it, name in re.findall(r"    /// (.*)\.\n    pub (\w+):", counts)})
+    fields = "".join(f"    /// {said[name]}.\n    pub {name}: u64,\n" for name in facts.most())
+    return text.replace(counts, fields).replace(given, "".join(f"            {name}: row.{name},\n" for name in facts.most()))
 
 
 def store(tree: Tree, facts: Facts) -> str:

@@ -237,8 +237,7 @@ class Typed:
         row = self.store.stat(place, **tag)
         if isinstance(row, DirectoryStat):
             return f"ok directory {row.directory} default {row.default}\n"
-        words = f"ok file {row.file} version {row.version} opened {row.opened} closed {row.closed} ended {shown(row.ended)}"
-        return f"{words} length {row.length} policy {row.policy}\n"
+        return f"ok {' '.join(f'{name} {shown(value)}' for name, value in row._asdict().items())}\n"
 
     def do_versions(self, source: str) -> str:
         place, tag = tagged(source, may_be_numbered=False)

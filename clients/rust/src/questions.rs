@@ -25,14 +25,7 @@ impl Store {
         if row.is_directory != 0 {
             return Ok(Stat::Directory { directory: row.id, policy });
         }
-        let version = Version {
-            number: row.version,
-            opened: row.opened,
-            closed: row.closed,
-            ended: unless_never(row.ended),
-            length: row.length,
-        };
-        Ok(Stat::File { file: row.id, version, policy })
+        Ok(Stat::File { file: row.id, version: Version::from(&row), policy })
     }
 
     fn policy_of(&self, row: &sys::elephant_stat_row) -> Result<Policy, Error> {
@@ -63,8 +56,7 @@ impl Store {
         read_rows(rows, |index| {
             // SAFETY: see `call`.
             let row: sys::elephant_version_row = self.row(|e, row| unsafe { sys::elephant_row_version(e, index, row) })?;
-            let ended = unless_never(row.ended);
-            Ok(Version { number: row.number, opened: row.opened, closed: row.closed, ended, length: row.length })
+            Ok(Version::from(&row))
         })
     }
 
@@ -162,17 +154,7 @@ impl Store {
     pub fn counts(&self) -> Counts {
         // SAFETY: see `call`. An open store has no error here.
         let row: sys::elephant_counts_row = self.row(|e, row| unsafe { sys::elephant_counts(e, row) }).unwrap_or_default();
-        Counts {
-            events: row.events,
-            files: row.files,
-            directories: row.directories,
-            names: row.names,
-            versions: row.versions,
-            handles: row.handles,
-            groups: row.groups,
-            members: row.members,
-            marks: row.marks,
-        }
+        Counts::from(&row)
     }
 
     /// Returns why a version is held, or due. In a store with a history it also returns when and why a version was removed, if you ask

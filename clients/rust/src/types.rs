@@ -1,5 +1,7 @@
 //! The arguments and results of calls.
 
+use crate::questions::unless_never;
+use crate::sys;
 use std::fmt;
 use std::time::{SystemTime, UNIX_EPOCH};
 
@@ -114,6 +116,22 @@ pub struct Counts {
     pub marks: u64,
 }
 
+impl From<&sys::elephant_counts_row> for Counts {
+    fn from(row: &sys::elephant_counts_row) -> Counts {
+        Counts {
+            events: row.events,
+            files: row.files,
+            directories: row.directories,
+            names: row.names,
+            versions: row.versions,
+            handles: row.handles,
+            groups: row.groups,
+            members: row.members,
+            marks: row.marks,
+        }
+    }
+}
+
 /// When a file's versions may be removed.
 #[derive(Clone, Debug, PartialEq, Eq, Hash)]
 #[non_exhaustive]
@@ -195,6 +213,24 @@ pub struct Version {
     pub ended: Option<u64>,
     /// Its length in bytes.
     pub length: u64,
+}
+
+impl From<&sys::elephant_version_row> for Version {
+    fn from(row: &sys::elephant_version_row) -> Version {
+        Version { number: row.number, opened: row.opened, closed: row.closed, ended: unless_never(row.ended), length: row.length }
+    }
+}
+
+impl From<&sys::elephant_stat_row> for Version {
+    fn from(row: &sys::elephant_stat_row) -> Version {
+        Version {
+            number: row.version,
+            opened: row.opened,
+            closed: row.closed,
+            ended: unless_never(row.ended),
+            length: row.length,
+        }
+    }
 }
 
 /// What a path and its tag mean.

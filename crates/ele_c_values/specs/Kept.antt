@@ -1,7 +1,8 @@
 -- What the handle keeps of each kind, as numbers and as bytes.
 use Rattle.std.specs.Prelude.{ℕ, ◌==◌, ℤ, pos, List, [], ◌∷◌, length, slice_get, Option, Some, None, Result, Ok, Err, if◌then◌else◌}
 use Rattle.ele_c_values.specs.Codes.{detail_of}
-use Rattle.ele_c_values.specs.Numbers.{zeros, single, pair, version_numbers, key_numbers, usage_numbers, named_numbers, dead_numbers, group_numbers, mark_numbers, file_numbers, directory_numbers, fate_numbers, pass_numbers, made_numbers}
+use Rattle.ele_c_values.specs.Limits.{made_numbers}
+use Rattle.ele_c_values.specs.Numbers.{zeros, single, pair, version_numbers, key_numbers, usage_numbers, named_numbers, dead_numbers, group_numbers, mark_numbers, file_numbers, directory_numbers, fate_numbers, pass_numbers}
 use Rattle.ele_c_values.specs.declared.kind.Kind.{Kind}
 use Rattle.ele_c_values.specs.declared.kind.Kind.TheVariants as kind
 use Rattle.ele_c_values.specs.declared.numbers.Numbers.{Numbers}

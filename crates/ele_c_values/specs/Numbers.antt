@@ -5,7 +5,6 @@ use Rattle.ele_c_values.specs.declared.numbers.Numbers.{Numbers}
 use Rattle.ele_due.specs.declared.key.Key.{Key}
 use Rattle.ele_model.specs.declared.fate.Fate.{Fate}
 use Rattle.ele_model.specs.declared.fate.Fate.TheVariants as fate
-use Rattle.ele_model.specs.declared.limits.Counts.{Counts}
 use Rattle.ele_model.specs.declared.pass.PassEnd.{PassEnd}
 use Rattle.ele_model.specs.declared.pass.PassEnd.TheVariants.{Finished, Budget, Stopped}
 use Rattle.ele_model.specs.declared.rows.DeadName.{DeadName}
@@ -133,17 +132,3 @@ abbrev pub pass_numbers : PassEnd → Numbers
 pass_numbers (Finished removed) = pair removed 1
 pass_numbers (Budget removed) = single removed
 pass_numbers (Stopped stop removed) = single removed
-
--- what the limits count: events, files, directories, names, versions, handles, groups, members, marks
-abbrev pub made_numbers : ℕ → Counts → Numbers
-made_numbers events made = record zeros {
-  first = events;
-  second = made.files;
-  third = made.directories;
-  fourth = made.names;
-  fifth = made.versions;
-  sixth = made.handles;
-  seventh = made.groups;
-  eighth = made.members;
-  ninth = made.marks;
-}

@@ -6,10 +6,10 @@ ghost use Rattle.ele_c_values.specs.Numbers.{key_numbers};
 ghost use Rattle.ele_embed.specs.Embedding.{reply_of};
 
 use crate::codes::{NO_HISTORY, NO_RESULT, NO_ROW, detail_of, or_never};
-use crate::counts::counts_made;
 use crate::fates::why_in;
 use crate::groups::{group_at, mark_at, member_at};
 use crate::kind::Kind;
+use crate::limits::counts_made;
 use crate::names::name_in;
 use crate::numbers::{NONE, Numbers};
 use crate::stats::{rung_in, stat_in};

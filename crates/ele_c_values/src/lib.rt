@@ -7,7 +7,6 @@ pub mod bytes;
 pub mod call;
 pub mod codes;
 pub mod copies;
-mod counts;
 pub mod event;
 mod fates;
 mod groups;

@@ -1,6 +1,10 @@
-//! The limits that a C program gives.
+//! The limits that a C program gives, and what they count.
+ghost use Rattle.std.specs.Prelude.{◌≡◌};
+ghost use Rattle.ele_c_values.specs.Kept.{counts_made};
 ghost use Rattle.ele_c_values.specs.Limits.{IsLimits};
 
+use crate::numbers::{NONE, Numbers};
+use ele_embed::Store;
 use ele_model::{LimitNumbers, Limits};
 
 /// `elephant_limits`.
@@ -33,4 +37,23 @@ pub fn limits_of(limits: &LimitFields) -> Option<Limits>
         members: limits.members,
         marks: limits.marks,
     })
+}
+
+// `elephant_counts_row`: events, files, directories, names, versions, handles, groups, members, marks.
+pub(crate) fn counts_made(store: &Store) -> Numbers
+    ensures { result ≡ counts_made store.now }
+{
+    let made = store.counts();
+    Numbers {
+        first: store.events(),
+        second: made.files,
+        third: made.directories,
+        fourth: made.names,
+        fifth: made.versions,
+        sixth: made.handles,
+        seventh: made.groups,
+        eighth: made.members,
+        ninth: made.marks,
+        ..NONE
+    }
 }

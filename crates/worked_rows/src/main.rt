@@ -3,7 +3,7 @@
 
 use anyhow::{Context, Result, anyhow};
 use ele_core::Core;
-use ele_model::Limits;
+use ele_model::{LimitNumbers, Limits};
 use ele_output::Printer;
 use ele_runs::{RunOptions, run_in};
 use ele_shell::run;
@@ -13,61 +13,187 @@ use std::{fs, io};
 /// NAME.output.
 const ROWS: &str = "rows";
 
-/// Scripts under limits of their own: events, files, directories, names, versions, handles, groups, members, marks.
-const LIMITED: [(&str, [u64; 9]); 25] = [
+/// Scripts under limits of their own: these, and else the largest.
+const LIMITED: [(&str, LimitNumbers); 25] = [
+    ("first_run", LimitNumbers::LARGEST),
     (
-        "first_run",
-        [
-            1_000_000_000,
-            100_000,
-            10_000,
-            200_000,
-            1_000_000,
-            1_000_000,
-            1_000,
-            100_000,
-            10_000,
-        ],
+        "a_history_of_no_events",
+        LimitNumbers {
+            events: 0,
+            ..LimitNumbers::LARGEST
+        },
     ),
-    ("a_history_of_no_events", [0, 9, 9, 9, 9, 9, 9, 9, 9]),
-    ("full_history", [1, 9, 9, 9, 9, 9, 9, 9, 9]),
-    ("pass_fills_the_history", [6, 9, 9, 9, 9, 9, 9, 9, 9]),
+    (
+        "full_history",
+        LimitNumbers {
+            events: 1,
+            ..LimitNumbers::LARGEST
+        },
+    ),
+    (
+        "pass_fills_the_history",
+        LimitNumbers {
+            events: 6,
+            ..LimitNumbers::LARGEST
+        },
+    ),
     (
         "pass_ends_as_the_history_is_full",
-        [7, 9, 9, 9, 9, 9, 9, 9, 9],
+        LimitNumbers {
+            events: 7,
+            ..LimitNumbers::LARGEST
+        },
     ),
     (
         "pass_of_one_ends_as_the_history_is_full",
-        [6, 9, 9, 9, 9, 9, 9, 9, 9],
+        LimitNumbers {
+            events: 6,
+            ..LimitNumbers::LARGEST
+        },
     ),
-    ("pass_of_the_largest_budget", [1, 9, 9, 9, 9, 9, 9, 9, 9]),
+    (
+        "pass_of_the_largest_budget",
+        LimitNumbers {
+            events: 1,
+            ..LimitNumbers::LARGEST
+        },
+    ),
     (
         "a_full_history_is_told_and_trimmed",
-        [3, 9, 9, 9, 9, 9, 9, 9, 9],
+        LimitNumbers {
+            events: 3,
+            ..LimitNumbers::LARGEST
+        },
     ),
-    ("files_limit", [9, 1, 9, 9, 9, 9, 9, 9, 9]),
-    ("directories_limit", [9, 9, 1, 9, 9, 9, 9, 9, 9]),
-    ("names_limit", [9, 9, 9, 1, 9, 9, 9, 9, 9]),
-    ("names_limit_of_directories", [9, 9, 9, 1, 9, 9, 9, 9, 9]),
-    ("names_limit_of_renames", [9, 9, 9, 2, 9, 9, 9, 9, 9]),
+    (
+        "files_limit",
+        LimitNumbers {
+            files: 1,
+            ..LimitNumbers::LARGEST
+        },
+    ),
+    (
+        "directories_limit",
+        LimitNumbers {
+            directories: 1,
+            ..LimitNumbers::LARGEST
+        },
+    ),
+    (
+        "names_limit",
+        LimitNumbers {
+            names: 1,
+            ..LimitNumbers::LARGEST
+        },
+    ),
+    (
+        "names_limit_of_directories",
+        LimitNumbers {
+            names: 1,
+            ..LimitNumbers::LARGEST
+        },
+    ),
+    (
+        "names_limit_of_renames",
+        LimitNumbers {
+            names: 2,
+            ..LimitNumbers::LARGEST
+        },
+    ),
     (
         "directories_are_full_before_names",
-        [9, 9, 1, 1, 9, 9, 9, 9, 9],
+        LimitNumbers {
+            directories: 1,
+            names: 1,
+            ..LimitNumbers::LARGEST
+        },
     ),
-    ("versions_limit", [99, 9, 9, 9, 2, 9, 9, 9, 9]),
-    ("versions_limit_of_undelete", [9, 9, 9, 9, 2, 9, 9, 9, 9]),
-    ("versions_limit_of_revert", [9, 9, 9, 9, 2, 9, 9, 9, 9]),
+    (
+        "versions_limit",
+        LimitNumbers {
+            versions: 2,
+            ..LimitNumbers::LARGEST
+        },
+    ),
+    (
+        "versions_limit_of_undelete",
+        LimitNumbers {
+            versions: 2,
+            ..LimitNumbers::LARGEST
+        },
+    ),
+    (
+        "versions_limit_of_revert",
+        LimitNumbers {
+            versions: 2,
+            ..LimitNumbers::LARGEST
+        },
+    ),
     (
         "versions_limit_with_a_draft_open",
-        [9, 9, 9, 9, 2, 9, 9, 9, 9],
+        LimitNumbers {
+            versions: 2,
+            ..LimitNumbers::LARGEST
+        },
     ),
-    ("handles_limit", [9, 9, 9, 9, 9, 1, 9, 9, 9]),
-    ("handles_limit_of_readers", [9, 9, 9, 9, 9, 1, 9, 9, 9]),
-    ("groups_limit", [9, 9, 9, 9, 9, 9, 1, 9, 9]),
-    ("members_limit", [9, 9, 9, 9, 9, 9, 9, 1, 9]),
-    ("marks_limit", [9, 9, 9, 9, 9, 9, 9, 9, 1]),
-    ("each_limit_is_one", [99, 1, 1, 1, 99, 1, 1, 1, 1]),
-    ("saves_and_restores_at_limits", [99, 2, 9, 3, 4, 0, 9, 9, 9]),
+    (
+        "handles_limit",
+        LimitNumbers {
+            handles: 1,
+            ..LimitNumbers::LARGEST
+        },
+    ),
+    (
+        "handles_limit_of_readers",
+        LimitNumbers {
+            handles: 1,
+            ..LimitNumbers::LARGEST
+        },
+    ),
+    (
+        "groups_limit",
+        LimitNumbers {
+            groups: 1,
+            ..LimitNumbers::LARGEST
+        },
+    ),
+    (
+        "members_limit",
+        LimitNumbers {
+            members: 1,
+            ..LimitNumbers::LARGEST
+        },
+    ),
+    (
+        "marks_limit",
+        LimitNumbers {
+            marks: 1,
+            ..LimitNumbers::LARGEST
+        },
+    ),
+    (
+        "each_limit_is_one",
+        LimitNumbers {
+            files: 1,
+            directories: 1,
+            names: 1,
+            handles: 1,
+            groups: 1,
+            members: 1,
+            marks: 1,
+            ..LimitNumbers::LARGEST
+        },
+    ),
+    (
+        "saves_and_restores_at_limits",
+        LimitNumbers {
+            files: 2,
+            names: 3,
+            versions: 4,
+            handles: 0,
+            ..LimitNumbers::LARGEST
+        },
+    ),
 ];
 
 /// Scripts under the largest limits whose run explains.
@@ -131,7 +257,7 @@ fn main(rt: HostRuntime) -> Result<()> {
         compare(&rt, name, &printed(&rt, name, Limits::largest())?)?;
     }
     for (name, numbers) in LIMITED {
-        let limits = Limits::new(numbers).context("no limits")?;
+        let limits = Limits::of(numbers).context("no limits")?;
         compare(&rt, name, &printed(&rt, name, limits)?)?;
     }
     for name in EXPLAINED {

@@ -5,7 +5,8 @@ from __future__ import annotations
 from enum import Enum
 from typing import NamedTuple, Optional, Union
 
-from ._moments import Moment
+from ._library import StatRow, VersionRow
+from ._moments import Moment, moment_or_none
 from ._policies import Policy
 
 
@@ -46,6 +47,11 @@ class Version(NamedTuple):
     ended: Optional[Moment]
     length: int
 
+    @classmethod
+    def of_row(cls, row: VersionRow) -> Version:
+        """Makes it of a row of the C library."""
+        return cls(row.number, Moment(row.opened), Moment(row.closed), moment_or_none(row.ended), row.length)
+
 
 class FileStat(NamedTuple):
     """A file, and one version of it."""
@@ -57,6 +63,11 @@ class FileStat(NamedTuple):
     ended: Optional[Moment]
     length: int
     policy: Policy
+
+    @classmethod
+    def of_row(cls, row: StatRow, policy: Policy) -> FileStat:
+        """Makes it of a row of the C library, and the file's policy."""
+        return cls(row.id, row.version, Moment(row.opened), Moment(row.closed), moment_or_none(row.ended), row.length, policy)
 
 
 class DirectoryStat(NamedTuple):

@@ -28,7 +28,6 @@ from ._errors import (
     error_of,
 )
 from ._library import FILE_NAME, NOW, CountsRow, KeyRow, LimitsRow, StatRow, VersionRow, library
-from ._moments import Moment, moment_or_none
 from ._names import MOST_NAME
 from ._policies import KeepAll, KeepOne, KeepSafe, Landmarks, Policy
 
@@ -206,10 +205,7 @@ class Core:
     def versions(self, subject: object, name: bytes, tag: int, number: int) -> list[Version]:
         """Returns the held versions of a file."""
         count = self.look(self.library.elephant_versions, subject, name, len(name), tag, number)
-        return [
-            Version(row.number, Moment(row.opened), Moment(row.closed), moment_or_none(row.ended), row.length)
-            for row in self.rows(self.library.elephant_row_version, VersionRow, count)
-        ]
+        return [Version.of_row(row) for row in self.rows(self.library.elephant_row_version, VersionRow, count)]
 
     def keys(self, count: int) -> list[tuple[int, int, int]]:
         """Returns the rows of the kept list of versions that may be removed."""

@@ -43,19 +43,19 @@ _PARTS: dict[str, list[type]] = {
 }
 # Printed by tools/pages/surface --write: the calls, from include/elephant.h.
 _CALLS = {
-    "open": "out word", "open_largest": "word", "detail": "out", "line": "text out", "tell": "out", "answer": "number into out",
-    "now": "out", "clock": "number", "tick": "number", "mkdir": "text out", "rmdir": "text", "create": "text out", "link": "text text",
-    "unlink": "text", "rename": "text text", "undelete": "text out", "open_write": "text out", "write": "number number text",
-    "truncate": "number number", "close_handle": "number out", "abandon": "number", "save": "text text out", "revert": "text number out",
-    "restore": "text number out", "open_read": "text word number out", "read": "text word number out", "read_handle": "number out",
-    "take": "number into out", "read_into": "text word number number into out out", "read_handle_into": "number number into out out",
-    "stat": "text word number out", "rung": "number out out", "versions": "text word number out", "row_version": "number out",
-    "list": "text word number out", "restorable": "out", "row_name": "number out", "row_bytes": "number into out", "due": "out",
-    "ahead": "number out", "row_key": "number out", "usage": "out", "row_usage": "number out", "policy": "text text",
-    "default": "text text", "group_make": "text", "group_drop": "text", "group_add": "text text", "group_remove": "text text",
-    "mark": "text number number", "unmark": "text number", "groups": "out", "row_group": "number out", "row_member": "number number out",
-    "row_mark": "number number out", "why": "text word number out", "why_group": "into out", "clean": "out", "pass": "number out out",
-    "history": "out out", "trim": "out",
+    "open": "out word", "open_largest": "word", "detail": "out", "counts": "out", "line": "text out", "tell": "out",
+    "answer": "number into out", "now": "out", "clock": "number", "tick": "number", "mkdir": "text out", "rmdir": "text",
+    "create": "text out", "link": "text text", "unlink": "text", "rename": "text text", "undelete": "text out", "open_write": "text out",
+    "write": "number number text", "truncate": "number number", "close_handle": "number out", "abandon": "number", "save": "text text out",
+    "revert": "text number out", "restore": "text number out", "open_read": "text word number out", "read": "text word number out",
+    "read_handle": "number out", "take": "number into out", "read_into": "text word number number into out out",
+    "read_handle_into": "number number into out out", "stat": "text word number out", "rung": "number out out",
+    "versions": "text word number out", "row_version": "number out", "list": "text word number out", "restorable": "out",
+    "row_name": "number out", "row_bytes": "number into out", "due": "out", "ahead": "number out", "row_key": "number out", "usage": "out",
+    "row_usage": "number out", "policy": "text text", "default": "text text", "group_make": "text", "group_drop": "text",
+    "group_add": "text text", "group_remove": "text text", "mark": "text number number", "unmark": "text number", "groups": "out",
+    "row_group": "number out", "row_member": "number number out", "row_mark": "number number out", "why": "text word number out",
+    "why_group": "into out", "clean": "out", "pass": "number out out", "history": "out out", "trim": "out",
 }
 # End of the calls.
 

@@ -92,7 +92,7 @@ class Questions(Turns):
             policy = core.policy_of(row)
             if row.is_directory:
                 return DirectoryStat(row.id, policy)
-            return FileStat(row.id, row.version, Moment(row.opened), Moment(row.closed), moment_or_none(row.ended), row.length, policy)
+            return FileStat.of_row(row, policy)
 
     def versions(self, path: Path, *, at: Optional[MomentLike] = None) -> Versions:
         """Returns the held versions of the file that the path names, or named at a moment."""
