@@ -7,11 +7,12 @@ use Rattle.std.proofs.lemmas.Bool.{cases_Bool, eqb-true, and_parts, and_from, eq
 use Rattle.ele_content.specs.declared.cell.Cell.{Cell}
 use Rattle.ele_checkpoint.specs.declared.fault.Flaw.TheVariants as flaws
 use Rattle.ele_checkpoint.specs.declared.fault.Mistake.{Mistake}
-use Rattle.ele_checkpoint.specs.Cells.{cell_text, cell_at, is_kept, joined, runs, content_text, slot_at, slots_at, content_at}
+use Rattle.ele_checkpoint.specs.Cells.{cell_text, is_kept, joined, runs, content_text}
+use Rattle.ele_checkpoint.specs.PartsRead.{cell_at, slot_at, slots_at, content_at, number_at, string_at}
 use Rattle.ele_checkpoint.specs.Fits.{IsNumber, IsCell, AreItems}
-use Rattle.ele_checkpoint.specs.Number.{number_text, number_at}
+use Rattle.ele_checkpoint.specs.Number.{number_text}
 use Rattle.ele_checkpoint.specs.Reading.{◌>>=◌, mistake}
-use Rattle.ele_checkpoint.specs.Values.{string_text, string_at}
+use Rattle.ele_checkpoint.specs.Values.{string_text}
 use Rattle.ele_checkpoint.proofs.Forms.{IsForm, bind_ok, test_ok, guard_ok, ok_is, both}
 use Rattle.ele_checkpoint.proofs.Grouped.{grouped2}
 use Rattle.ele_checkpoint.proofs.Numbers.{number_form}

@@ -11,11 +11,12 @@ use Rattle.ele_checkpoint.specs.declared.fault.ReadError.{ReadError}
 use Rattle.ele_checkpoint.specs.declared.fault.ReadError.TheVariants as errors
 use Rattle.ele_checkpoint.specs.declared.fault.Stop.{Stop}
 use Rattle.ele_checkpoint.specs.declared.fault.Stop.TheVariants as stop
-use Rattle.ele_checkpoint.specs.Checkpoint.{IsGiven, IsRead, IsTold, checkpoint, head, measured, sealed}
+use Rattle.ele_checkpoint.specs.Checkpoint.{IsRead, checkpoint, head, measured, sealed}
+use Rattle.ele_checkpoint.specs.PartsRead.{IsGiven, IsTold, all_at, whole_at}
 use Rattle.ele_checkpoint.specs.Fits.{IsFlat}
 use Rattle.ele_checkpoint.specs.Reading.{Gives, mistake}
 use Rattle.ele_checkpoint.specs.Sum.{sum}
-use Rattle.ele_checkpoint.specs.Whole.{all_at, whole_at, whole_text}
+use Rattle.ele_checkpoint.specs.Whole.{whole_text}
 use Rattle.ele_checkpoint.proofs.Forms.{bind_ok, test_ok, ok_is}
 use Rattle.ele_checkpoint.proofs.Worlds.{whole_form}
 

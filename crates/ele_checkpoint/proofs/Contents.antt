@@ -5,12 +5,13 @@ use Rattle.ele_model.specs.declared.rows.VersionRow.{VersionRow}
 use Rattle.ele_model.specs.declared.rows.DraftRow.{DraftRow}
 use Rattle.ele_checkpoint.specs.Reading.{◌>>=◌}
 use Rattle.ele_checkpoint.proofs.Forms.{IsForm, bind_ok, ok_is, both}
-use Rattle.ele_checkpoint.specs.Number.{number_text, number_at}
+use Rattle.ele_checkpoint.specs.Number.{number_text}
+use Rattle.ele_checkpoint.specs.PartsRead.{number_at, moment_at, maybe_at, truth_at, content_at, version_at, each_version_at, versions_at, draft_at, drafts_at}
 use Rattle.ele_checkpoint.proofs.Numbers.{number_form}
 use Rattle.ele_checkpoint.specs.Fits.{IsVersion, IsDraft, AreItems}
-use Rattle.ele_checkpoint.specs.Values.{moment_at, maybe_text, maybe_at, truth_text, truth_at}
-use Rattle.ele_checkpoint.specs.Cells.{content_text, content_at}
-use Rattle.ele_checkpoint.specs.Contents.{base_after, version_text, version_at, each_version, versions_text, each_version_at, versions_at, base_of, draft_text, draft_at, drafts_text, drafts_at}
+use Rattle.ele_checkpoint.specs.Values.{maybe_text, truth_text}
+use Rattle.ele_checkpoint.specs.Cells.{content_text}
+use Rattle.ele_checkpoint.specs.Contents.{base_after, version_text, each_version, versions_text, base_of, draft_text, drafts_text}
 use Rattle.ele_checkpoint.proofs.Grouped.{grouped2, grouped4, grouped6}
 use Rattle.ele_checkpoint.proofs.Lists.{list_form}
 use Rattle.ele_checkpoint.proofs.Values.{moment_form, maybe_form, truth_form}

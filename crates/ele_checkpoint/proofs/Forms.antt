@@ -4,7 +4,7 @@ use Rattle.std.specs.List.{flat_map, AllByRecursion}
 use Rattle.std.proofs.lemmas.List.Concat.{flat_map-cons}
 use Rattle.ele_checkpoint.specs.declared.fault.Mistake.{Mistake}
 use Rattle.ele_checkpoint.specs.Reading.{◌>>=◌}
-use Rattle.ele_checkpoint.specs.Lists.{items_at}
+use Rattle.ele_checkpoint.specs.PartsRead.{items_at}
 
 -- what was read is spelled so, and what is spelled so is read
 pub record IsForm {X : Type 0} (text : X → List ℕ) (at : List ℕ → Result (X × List ℕ) Mistake) (Fits : X → Type 0) : Type 0 where

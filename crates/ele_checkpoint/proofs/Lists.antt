@@ -3,8 +3,9 @@ use Rattle.std.proofs.Common.{◌≡◌, ℕ, List, ◌++◌, length, Result, Ok
 use Rattle.std.specs.List.{flat_map}
 use Rattle.ele_checkpoint.specs.declared.fault.Mistake.{Mistake}
 use Rattle.ele_checkpoint.specs.Fits.{AreItems}
-use Rattle.ele_checkpoint.specs.Lists.{list_text, list_at, items_at}
-use Rattle.ele_checkpoint.specs.Number.{number_text, number_at}
+use Rattle.ele_checkpoint.specs.Lists.{list_text}
+use Rattle.ele_checkpoint.specs.PartsRead.{list_at, items_at, number_at}
+use Rattle.ele_checkpoint.specs.Number.{number_text}
 use Rattle.ele_checkpoint.proofs.Forms.{IsForm, bind_ok, both, items_take, items_again}
 use Rattle.ele_checkpoint.proofs.Grouped.{grouped2}
 use Rattle.ele_checkpoint.proofs.Numbers.{number_form}

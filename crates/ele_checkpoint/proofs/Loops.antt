@@ -10,9 +10,9 @@ use Rattle.ele_checkpoint.specs.declared.fault.Flaw.TheVariants as flaws
 use Rattle.ele_checkpoint.specs.declared.fault.Mistake.{Mistake}
 use Rattle.ele_checkpoint.specs.declared.fault.Stop.{Stop}
 use Rattle.ele_checkpoint.specs.declared.fault.Stop.TheVariants as stop
-use Rattle.ele_checkpoint.specs.Cells.{IsPut, cell_text, content_text, is_kept, joined, runs, slot_at, slots_at}
-use Rattle.ele_checkpoint.specs.Contents.{version_text, version_at, each_version, each_version_at}
-use Rattle.ele_checkpoint.specs.Lists.{items_at}
+use Rattle.ele_checkpoint.specs.Cells.{cell_text, content_text, is_kept, joined, runs}
+use Rattle.ele_checkpoint.specs.PartsRead.{IsPut, slot_at, slots_at, version_at, each_version_at, items_at}
+use Rattle.ele_checkpoint.specs.Contents.{version_text, each_version}
 use Rattle.ele_checkpoint.specs.Number.{number_text}
 use Rattle.ele_checkpoint.specs.Reading.{◌>>=◌, Fails, mistake}
 use Rattle.ele_checkpoint.proofs.Cells.{runs_keep, runs_tell}

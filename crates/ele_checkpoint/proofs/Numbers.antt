@@ -7,7 +7,8 @@ use Rattle.ele_checkpoint.specs.declared.fault.Flaw.TheVariants.{Short, Padded, 
 use Rattle.ele_checkpoint.specs.declared.fault.Mistake.{Mistake}
 use Rattle.ele_checkpoint.specs.Fits.{IsNumber}
 use Rattle.ele_checkpoint.specs.Reading.{◌>>=◌, Fails, Gives, mistake}
-use Rattle.ele_checkpoint.specs.Number.{digits, top, number_text, joined, digits_at, number_at}
+use Rattle.ele_checkpoint.specs.Number.{digits, number_text}
+use Rattle.ele_checkpoint.specs.PartsRead.{top, joined, digits_at, number_at}
 use Rattle.ele_checkpoint.proofs.Forms.{IsForm, bind_ok, guard_ok, ok_is}
 
 -- ---- the cases of reading, whatever the number of bytes

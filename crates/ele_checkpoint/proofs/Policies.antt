@@ -2,7 +2,8 @@
 use Rattle.std.proofs.Common.{◌≡◌, ℕ, zero, suc, ◌≤◌, true, cond, List, [], ◌∷◌, ◌++◌, length, Ok, Err, refl, ap, subst, ◌∙◌, arith}
 use Rattle.ele_checkpoint.specs.Reading.{◌>>=◌, mistake}
 use Rattle.ele_checkpoint.proofs.Forms.{IsForm, bind_ok, test_ok, ok_is, both}
-use Rattle.ele_checkpoint.specs.Number.{number_text, number_at}
+use Rattle.ele_checkpoint.specs.Number.{number_text}
+use Rattle.ele_checkpoint.specs.PartsRead.{number_at, list_at, rung_at, is_safe, safe_at, is_ladder, ladder_at, policy_at}
 use Rattle.ele_checkpoint.proofs.Numbers.{number_form}
 use Rattle.std.specs.List.{AllByRecursion}
 use Rattle.std.proofs.lemmas.Bool.{le-leb, lt-ltb, leb-true, and_parts}
@@ -15,8 +16,8 @@ use Rattle.ele_policy.specs.declared.policy.Policy.{Policy}
 use Rattle.ele_policy.specs.declared.policy.Policy.TheVariants as policies
 use Rattle.ele_checkpoint.specs.declared.fault.Flaw.TheVariants as flaws
 use Rattle.ele_checkpoint.specs.Fits.{IsNumber, AreItems}
-use Rattle.ele_checkpoint.specs.Lists.{list_text, list_at}
-use Rattle.ele_checkpoint.specs.Values.{rung_text, rung_at, policy_text, is_safe, safe_at, is_ladder, ladder_at, policy_at}
+use Rattle.ele_checkpoint.specs.Lists.{list_text}
+use Rattle.ele_checkpoint.specs.Values.{rung_text, policy_text}
 use Rattle.ele_checkpoint.proofs.Grouped.{grouped2}
 use Rattle.ele_checkpoint.proofs.Lists.{list_form}
 

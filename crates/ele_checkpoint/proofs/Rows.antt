@@ -8,12 +8,13 @@ use Rattle.ele_model.specs.declared.rows.MarkRow.{MarkRow}
 use Rattle.ele_model.specs.declared.rows.GroupRow.{GroupRow}
 use Rattle.ele_checkpoint.specs.Reading.{◌>>=◌}
 use Rattle.ele_checkpoint.proofs.Forms.{IsForm, bind_ok, ok_is, both}
-use Rattle.ele_checkpoint.specs.Number.{number_text, number_at}
+use Rattle.ele_checkpoint.specs.Number.{number_text}
+use Rattle.ele_checkpoint.specs.PartsRead.{number_at, list_at, name_at, moment_at, maybe_at, policy_at, target_at, reads_at, directory_at, file_at, name_row_at, handle_at, mark_at, group_at}
 use Rattle.ele_checkpoint.proofs.Numbers.{number_form}
 use Rattle.ele_checkpoint.specs.Fits.{IsDirectory, IsFile, IsNameRow, IsHandle, IsMark, IsGroup}
-use Rattle.ele_checkpoint.specs.Lists.{list_text, list_at}
-use Rattle.ele_checkpoint.specs.Values.{string_text, name_at, moment_at, maybe_text, maybe_at, policy_text, policy_at, target_text, target_at, reads_text, reads_at}
-use Rattle.ele_checkpoint.specs.Rows.{directory_text, directory_at, file_text, file_at, name_text, name_row_at, handle_text, handle_at, mark_text, mark_at, group_text, group_at}
+use Rattle.ele_checkpoint.specs.Lists.{list_text}
+use Rattle.ele_checkpoint.specs.Values.{string_text, maybe_text, policy_text, target_text, reads_text}
+use Rattle.ele_checkpoint.specs.Rows.{directory_text, file_text, name_text, handle_text, mark_text, group_text}
 use Rattle.ele_checkpoint.proofs.Grouped.{grouped2, grouped3, grouped5}
 use Rattle.ele_checkpoint.proofs.Lists.{list_form}
 use Rattle.ele_checkpoint.proofs.Values.{moment_form, maybe_form, name_form, target_form, reads_form}

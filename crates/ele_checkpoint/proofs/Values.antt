@@ -12,9 +12,10 @@ use Rattle.ele_model.specs.declared.rows.Reads.{Reads}
 use Rattle.ele_model.specs.declared.rows.Reads.TheVariants as readings
 use Rattle.ele_checkpoint.specs.declared.fault.Flaw.TheVariants as flaws
 use Rattle.ele_checkpoint.specs.Fits.{IsMoment, IsMaybe, IsTarget, IsReads}
-use Rattle.ele_checkpoint.specs.Number.{number_text, number_at}
+use Rattle.ele_checkpoint.specs.Number.{number_text}
+use Rattle.ele_checkpoint.specs.PartsRead.{number_at, string_at, truth_at, moment_at, maybe_at, is_name, name_at, target_at, reads_at}
 use Rattle.ele_checkpoint.specs.Reading.{◌>>=◌, mistake}
-use Rattle.ele_checkpoint.specs.Values.{string_text, string_at, truth_text, truth_at, moment_at, maybe_text, maybe_at, is_name, name_at, target_text, target_at, reads_text, reads_at}
+use Rattle.ele_checkpoint.specs.Values.{string_text, truth_text, maybe_text, target_text, reads_text}
 use Rattle.ele_checkpoint.proofs.Forms.{IsForm, bind_ok, test_ok, guard_ok, ok_is, both}
 use Rattle.ele_checkpoint.proofs.Grouped.{grouped2}
 use Rattle.ele_checkpoint.proofs.Numbers.{number_form}

@@ -7,14 +7,14 @@ use Rattle.ele_model.specs.Bounds.{Bounds, AreBounds, largest_bounds}
 use Rattle.ele_checkpoint.specs.declared.fault.Flaw.TheVariants as flaws
 use Rattle.ele_checkpoint.specs.Reading.{◌>>=◌, mistake}
 use Rattle.ele_checkpoint.proofs.Forms.{IsForm, bind_ok, test_ok, ok_is, both, peel}
-use Rattle.ele_checkpoint.specs.Number.{number_text, number_at}
+use Rattle.ele_checkpoint.specs.Number.{number_text}
+use Rattle.ele_checkpoint.specs.PartsRead.{number_at, list_at, moment_at, directory_at, file_at, name_row_at, handle_at, group_at, versions_at, drafts_at, three_at, counts_at, are_bounds, bounds_from, limits_at, whole_at}
 use Rattle.ele_checkpoint.proofs.Numbers.{number_form}
 use Rattle.ele_checkpoint.specs.Fits.{IsNumber, IsFlat, AreCounts}
-use Rattle.ele_checkpoint.specs.Lists.{list_text, list_at}
-use Rattle.ele_checkpoint.specs.Values.{moment_at}
-use Rattle.ele_checkpoint.specs.Rows.{directory_text, directory_at, file_text, file_at, name_text, name_row_at, handle_text, handle_at, group_text, group_at}
-use Rattle.ele_checkpoint.specs.Contents.{versions_text, versions_at, drafts_text, drafts_at}
-use Rattle.ele_checkpoint.specs.Whole.{three_text, three_at, counts_text, counts_at, limits_text, are_bounds, bounds_from, limits_at, whole_text, whole_at}
+use Rattle.ele_checkpoint.specs.Lists.{list_text}
+use Rattle.ele_checkpoint.specs.Rows.{directory_text, file_text, name_text, handle_text, group_text}
+use Rattle.ele_checkpoint.specs.Contents.{versions_text, drafts_text}
+use Rattle.ele_checkpoint.specs.Whole.{three_text, counts_text, limits_text, whole_text}
 use Rattle.ele_checkpoint.proofs.Grouped.{grouped3, grouped4, grouped10}
 use Rattle.ele_checkpoint.proofs.Lists.{list_form}
 use Rattle.ele_checkpoint.proofs.Values.{moment_form}

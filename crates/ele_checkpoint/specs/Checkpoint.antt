@@ -4,8 +4,6 @@ use Rattle.std.specs.Int.{w32, w64, to_be_bytes}
 use Rattle.ele_model.specs.declared.flat.Flat.{Flat}
 use Rattle.ele_checkpoint.specs.declared.fault.ReadError.{ReadError}
 use Rattle.ele_checkpoint.specs.declared.fault.ReadError.TheVariants as errors
-use Rattle.ele_checkpoint.specs.declared.fault.Stop.{Stop}
-use Rattle.ele_checkpoint.specs.declared.fault.Stop.TheVariants as stop
 use Rattle.ele_checkpoint.specs.Sum.{sum}
 use Rattle.ele_checkpoint.specs.Whole.{whole_text}
 
@@ -30,16 +28,3 @@ abbrev pub IsRead : Flat → Result Flat ReadError → Type 0
 IsRead flat (Ok read) = read ≡ flat
 IsRead flat (Err errors.NoMemory) = Unit {0}
 IsRead flat (Err (errors.Fault fault)) = ⊥
-
--- the same inside
-abbrev pub IsGiven : Flat → Result Flat Stop → Type 0
-IsGiven flat (Ok read) = read ≡ flat
-IsGiven flat (Err stop.Memory) = Unit {0}
-IsGiven flat (Err (stop.At mistake)) = ⊥
-
--- memory was refused where it was refused inside
-abbrev pub IsTold : Stop → ReadError → Type 0
-IsTold stop.Memory errors.NoMemory = Unit {0}
-IsTold stop.Memory (errors.Fault fault) = ⊥
-IsTold (stop.At mistake) errors.NoMemory = ⊥
-IsTold (stop.At mistake) (errors.Fault fault) = Unit {0}

@@ -9,3 +9,4 @@ pub mod Whole
 pub mod Fits
 pub mod Sum
 pub mod Checkpoint
+pub mod PartsRead

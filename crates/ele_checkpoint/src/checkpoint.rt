@@ -2,10 +2,11 @@
 //! A contract sees the flat world, and the list of the bytes.
 ghost use Rattle.std.specs.Prelude.{◌≡◌, ◌≤◌, ◌++◌, List, ℕ, length, IfErr, IfOk, Ok};
 ghost use Rattle.ele_model.specs.declared.flat.Flat.{Flat};
-ghost use Rattle.ele_checkpoint.specs.Checkpoint.{IsGiven, IsRead, IsTold, checkpoint, head, sealed};
+ghost use Rattle.ele_checkpoint.specs.Checkpoint.{IsRead, checkpoint, head, sealed};
+ghost use Rattle.ele_checkpoint.specs.PartsRead.{IsGiven, IsTold, all_at};
 ghost use Rattle.ele_checkpoint.specs.Fits.{IsFlat};
 ghost use Rattle.ele_checkpoint.specs.Reading.{Gives};
-ghost use Rattle.ele_checkpoint.specs.Whole.{all_at, whole_text};
+ghost use Rattle.ele_checkpoint.specs.Whole.{whole_text};
 
 use crate::fault::{Fault, Flaw, ReadError, Stop, wrong};
 use crate::seal::{seal, unsealed};

@@ -1,7 +1,8 @@
 //! Types whose values have one form as bytes, and lists of them.
 //! A contract sees the bytes of a value, and how they are read.
 ghost use Rattle.std.specs.Prelude.{◌≡◌, ◌++◌, OnOk};
-ghost use Rattle.ele_checkpoint.specs.Lists.{items_at, list_at, list_text};
+ghost use Rattle.ele_checkpoint.specs.Lists.{list_text};
+ghost use Rattle.ele_checkpoint.specs.PartsRead.{items_at, list_at};
 ghost use Rattle.ele_checkpoint.specs.Reading.{Gives};
 
 use crate::fault::Stop;

@@ -2,7 +2,8 @@
 //! and told by their number alone. A contract sees both contents, and bytes.
 ghost use Rattle.std.specs.Prelude.{◌≡◌, ◌+◌, ◌<◌, ◌^◌, ◌++◌, IfOk, OnOk, slice_get};
 ghost use Rattle.std.specs.Option.{option_copied};
-ghost use Rattle.ele_checkpoint.specs.Cells.{IsPut, cell_text, cell_at, content_text, content_at, is_kept, slot_at, slots_at};
+ghost use Rattle.ele_checkpoint.specs.Cells.{cell_text, content_text, is_kept};
+ghost use Rattle.ele_checkpoint.specs.PartsRead.{IsPut, cell_at, content_at, slot_at, slots_at};
 ghost use Rattle.ele_checkpoint.specs.Reading.{Gives};
 
 use crate::fault::{Flaw, Stop, wrong};

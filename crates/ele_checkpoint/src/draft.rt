@@ -1,8 +1,8 @@
 //! Rows of drafts as bytes, each beside the last version of its file.
 //! A contract sees the rows, and bytes.
 ghost use Rattle.std.specs.Prelude.{◌≡◌, ◌++◌, OnOk};
-ghost use Rattle.ele_checkpoint.specs.Contents.{base_of, draft_text, draft_at, drafts_text, drafts_at};
-ghost use Rattle.ele_checkpoint.specs.Lists.{items_at};
+ghost use Rattle.ele_checkpoint.specs.Contents.{base_of, draft_text, drafts_text};
+ghost use Rattle.ele_checkpoint.specs.PartsRead.{draft_at, drafts_at, items_at};
 ghost use Rattle.ele_checkpoint.specs.Reading.{Gives};
 
 use crate::content::{content_of, put_content};

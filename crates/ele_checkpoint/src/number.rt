@@ -1,7 +1,8 @@
 //! Numbers in a variable width, each with one spelling.
 //! A contract sees a number, and bytes.
 ghost use Rattle.std.specs.Prelude.{◌≡◌, ◌<◌, ◌≤◌, ◌++◌, OnOk};
-ghost use Rattle.ele_checkpoint.specs.Number.{digits, digits_at, joined, number_text, number_at, top};
+ghost use Rattle.ele_checkpoint.specs.Number.{digits, number_text};
+ghost use Rattle.ele_checkpoint.specs.PartsRead.{digits_at, joined, number_at, top};
 ghost use Rattle.ele_checkpoint.specs.Reading.{Gives};
 
 use crate::fault::{Flaw, Stop, wrong};

@@ -1,7 +1,8 @@
 //! Rows of directories, files, names, handles and groups as bytes.
 //! A contract sees a row, and its bytes.
-ghost use Rattle.ele_checkpoint.specs.Number.{number_text, number_at};
-ghost use Rattle.ele_checkpoint.specs.Rows.{directory_text, directory_at, file_text, file_at, group_text, group_at, handle_text, handle_at, mark_text, mark_at, name_text, name_row_at};
+ghost use Rattle.ele_checkpoint.specs.Number.{number_text};
+ghost use Rattle.ele_checkpoint.specs.PartsRead.{number_at, directory_at, file_at, group_at, handle_at, mark_at, name_row_at};
+ghost use Rattle.ele_checkpoint.specs.Rows.{directory_text, file_text, group_text, handle_text, mark_text, name_text};
 
 use crate::coded::{Coded, list_of, put_list};
 use crate::fault::Stop;

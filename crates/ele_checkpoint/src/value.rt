@@ -4,7 +4,8 @@ ghost use Rattle.std.specs.Prelude.{◌≡◌, ◌++◌, OnOk};
 ghost use Rattle.ele_checkpoint.specs.Lists.{list_text};
 ghost use Rattle.ele_checkpoint.specs.Number.{number_text};
 ghost use Rattle.ele_checkpoint.specs.Reading.{Gives};
-ghost use Rattle.ele_checkpoint.specs.Values.{ladder_at, maybe_text, maybe_at, moment_at, name_at, policy_text, policy_at, reads_text, reads_at, rung_text, rung_at, safe_at, string_text, string_at, target_text, target_at, truth_text, truth_at};
+ghost use Rattle.ele_checkpoint.specs.Values.{maybe_text, policy_text, reads_text, rung_text, string_text, target_text, truth_text};
+ghost use Rattle.ele_checkpoint.specs.PartsRead.{ladder_at, maybe_at, moment_at, name_at, policy_at, reads_at, rung_at, safe_at, string_at, target_at, truth_at};
 
 use crate::coded::{Coded, list_of, put_list};
 use crate::fault::{Flaw, Stop, wrong};

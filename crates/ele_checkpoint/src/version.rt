@@ -2,7 +2,8 @@
 //! A contract sees the rows, and bytes.
 ghost use Rattle.std.specs.Prelude.{◌≡◌, ◌++◌, None, OnOk};
 ghost use Rattle.std.specs.Option.{option_copied};
-ghost use Rattle.ele_checkpoint.specs.Contents.{base_after, each_version_at, version_text, version_at, versions_text, versions_at};
+ghost use Rattle.ele_checkpoint.specs.Contents.{base_after, version_text, versions_text};
+ghost use Rattle.ele_checkpoint.specs.PartsRead.{each_version_at, version_at, versions_at};
 ghost use Rattle.ele_checkpoint.specs.Reading.{Gives};
 
 use crate::content::{content_of, put_content};

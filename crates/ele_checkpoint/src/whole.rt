@@ -2,7 +2,8 @@
 //! A contract sees the world, and bytes.
 ghost use Rattle.std.specs.Prelude.{◌≡◌, ◌++◌, OnOk};
 ghost use Rattle.ele_checkpoint.specs.Reading.{Gives};
-ghost use Rattle.ele_checkpoint.specs.Whole.{counts_text, counts_at, limits_text, limits_at, three_text, three_at, whole_text, whole_at};
+ghost use Rattle.ele_checkpoint.specs.Whole.{counts_text, limits_text, three_text, whole_text};
+ghost use Rattle.ele_checkpoint.specs.PartsRead.{counts_at, limits_at, three_at, whole_at};
 
 use crate::coded::{list_of, put_list};
 use crate::draft::{drafts_of, put_drafts};

@@ -1,5 +1,5 @@
 use Rattle.ele_checkpoint.proofs.Loops.{goes_on, ends, is_done}
-use Rattle.ele_checkpoint.specs.Lists.{items_at}
+use Rattle.ele_checkpoint.specs.PartsRead.{items_at}
 use Rattle.ele_checkpoint.proofs.coded.items_of.Goals as goal
 
 pub returns-in-Err : goal.returns-in-Err

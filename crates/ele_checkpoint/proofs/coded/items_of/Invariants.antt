@@ -1,5 +1,5 @@
 use Rattle.std.proofs.Common.{◌≡◌, ◌-◌}
-use Rattle.ele_checkpoint.specs.Lists.{items_at}
+use Rattle.ele_checkpoint.specs.PartsRead.{items_at}
 use Rattle.ele_checkpoint.proofs.Loops.{with_front}
 use Rattle.ele_checkpoint.proofs.coded.items_of.Given as goal
 

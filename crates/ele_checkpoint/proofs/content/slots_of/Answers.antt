@@ -1,5 +1,5 @@
 use Rattle.std.proofs.Common.{arith}
-use Rattle.ele_checkpoint.specs.Cells.{slots_at}
+use Rattle.ele_checkpoint.specs.PartsRead.{slots_at}
 use Rattle.ele_checkpoint.proofs.Loops.{slots_go_on, slots_end, slots_done, slots_left}
 use Rattle.ele_checkpoint.proofs.content.slots_of.Goals as goal
 

@@ -1,5 +1,5 @@
 use Rattle.std.proofs.Common.{◌≡◌, ◌-◌}
-use Rattle.ele_checkpoint.specs.Cells.{slots_at}
+use Rattle.ele_checkpoint.specs.PartsRead.{slots_at}
 use Rattle.ele_checkpoint.proofs.Loops.{with_front}
 use Rattle.ele_checkpoint.proofs.content.slots_of.Given as goal
 

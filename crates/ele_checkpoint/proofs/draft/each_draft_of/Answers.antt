@@ -1,6 +1,5 @@
 use Rattle.ele_checkpoint.proofs.Loops.{goes_on, ends, is_done}
-use Rattle.ele_checkpoint.specs.Lists.{items_at}
-use Rattle.ele_checkpoint.specs.Contents.{draft_at}
+use Rattle.ele_checkpoint.specs.PartsRead.{items_at, draft_at}
 use Rattle.ele_checkpoint.proofs.draft.each_draft_of.Goals as goal
 
 pub returns-in-Err : goal.returns-in-Err

@@ -1,6 +1,5 @@
 use Rattle.std.proofs.Common.{◌≡◌, ◌-◌}
-use Rattle.ele_checkpoint.specs.Contents.{draft_at}
-use Rattle.ele_checkpoint.specs.Lists.{items_at}
+use Rattle.ele_checkpoint.specs.PartsRead.{draft_at, items_at}
 use Rattle.ele_checkpoint.proofs.Loops.{with_front}
 use Rattle.ele_checkpoint.proofs.draft.each_draft_of.Given as goal
 

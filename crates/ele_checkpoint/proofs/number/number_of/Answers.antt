@@ -1,4 +1,4 @@
-use Rattle.ele_checkpoint.specs.Number.{number_at}
+use Rattle.ele_checkpoint.specs.PartsRead.{number_at}
 use Rattle.ele_checkpoint.proofs.number.number_of.Goals as goal
 
 pub returns : goal.returns

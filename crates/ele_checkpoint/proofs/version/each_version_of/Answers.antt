@@ -1,6 +1,6 @@
 use Rattle.std.proofs.Common.{None, ◌-◌, length}
 use Rattle.std.specs.Prelude.{slice_get}
-use Rattle.ele_checkpoint.specs.Contents.{each_version_at}
+use Rattle.ele_checkpoint.specs.PartsRead.{each_version_at}
 use Rattle.ele_checkpoint.proofs.Loops.{versions_go_on, versions_end, versions_done, last_pushed}
 use Rattle.ele_checkpoint.proofs.version.each_version_of.Goals as goal
 
