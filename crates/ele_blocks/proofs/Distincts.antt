@@ -1,5 +1,5 @@
 -- The blocks of a store are as many as its maps name.
-use Rattle.ele_blocks.proofs.Lemmas.{get_or-set_same, get_or-set_other, get_or_past, length-set, [], AreOneToOne, arith, backing, backing_some, blocks_of, cond, count_by, Counted, different, eqb, false, ids_of, inl, inr, is_place, is_some, IsIn, Layout, leaf_at, List, list_any, ltb, map, Named, named, nat_tests, None, Option, Owes, Owned, owners_at, Place, place_at, refl, set, slots_backed, slots_least, slots_of, Store, suc, sum_by-cons, times, times-append, true, zero, ℕ, ◌+◌, ◌<◌, ◌∷◌, ◌≡◌, ◌≤◌, ◌-◌}
+use Rattle.ele_blocks.proofs.Lemmas.{get_or-set_same, get_or-set_other, get_or_past, length-set, [], AreOneToOne, arith, backing, backing_some, blocks_of, cond, count_by, Counted, different, eqb, false, ids_of, inl, inr, is_place, is_some, IsIn, Layout, leaf_at, List, list_any, ltb, map, Named, named, nat_tests, None, Option, Owes, Owned, owners_at, Place, place_at, refl, set, slots_backed, slots_least, slots_of, Store, suc, sum_by-cons, times, times-append, true, zero, ℕ, ◌+◌, ◌<◌, ◌∷◌, ◌≡◌, ◌≤◌}
 
 abbrev pub Blocks : Type 0
 Blocks = List (Option (Counted (List ℕ)))

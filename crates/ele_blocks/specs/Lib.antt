@@ -1,5 +1,7 @@
 pub mod Shared
 pub mod SharedInside
+pub mod BlockInside
+pub mod LeafInside
 pub mod Store
 pub mod Layout
 pub mod LayoutInside

@@ -1,11 +1,10 @@
 //! Items that replace part of a list, from one of its places on.
 //! A contract sees lists.
-ghost use Rattle.std.specs.Prelude.{◌≡◌, ◌<◌, ◌≤◌, ◌+◌, [], ◌∷◌, length, map, vec_capacity};
+ghost use Rattle.std.specs.Prelude.{◌≡◌, ◌<◌, ◌≤◌, ◌+◌, ◌^◌, [], ◌∷◌, length, map, vec_capacity};
 ghost use Rattle.ele_blocks.specs.LaidOver.{laid_over};
 ghost use Rattle.ele_blocks.specs.Layout.{slot_by};
 
-use crate::slot::Slot;
-use crate::store::BlockId;
+use crate::slot::{Number, Slot};
 use ele_moment::VersionNo;
 
 // Sets the item at its place, or adds it at the end, in reserved memory.
@@ -25,14 +24,18 @@ fn place<T: Copy>(items: &mut Vec<T>, at: usize, item: T)
 
 /// Replaces slots from `first` on by the writer's slots for the blocks. The caller has reserved
 /// memory for those past the end.
-pub fn lay_slots(slots: &mut Vec<Slot>, first: usize, writer: VersionNo, ids: &[usize])
+pub fn lay_slots(slots: &mut Vec<Slot>, first: usize, writer: VersionNo, ids: &[u32])
+    requires writer { writer < 2 ^ 32 }
     requires within { first ≤ length slots.old.items }
     requires room { first + length ids.now ≤ vec_capacity slots.old }
     ensures { slots.new.items ≡ laid_over first (map (slot_by writer) ids.now) slots.old.items }
 {
     for (i, id) in ids.iter().enumerate() {
-        let block = BlockId { key: *id };
-        place(slots, first + i, Slot { writer, block });
+        let slot = Slot {
+            writer: Number::new(writer.0 as u32),
+            block: Number::new(*id),
+        };
+        place(slots, first + i, slot);
     }
 }
 

@@ -3,6 +3,7 @@
 //! its cells.
 #![tactic(auto)]
 
+mod block;
 mod laid;
 pub mod laws;
 mod leaf;

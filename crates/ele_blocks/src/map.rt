@@ -78,7 +78,7 @@ impl BlockMap {
             return None;
         }
         let cell = self.slot_at(store, slot);
-        Some((cell.writer, cell.block))
+        Some((cell.writer.version(), cell.block.block()))
     }
 
     // A slot of the map.
@@ -157,6 +157,6 @@ impl BlockMap {
         if slot >= self.slots() {
             return &[];
         }
-        store.get(self.slot_at(store, slot).block)
+        store.get(self.slot_at(store, slot).block.block())
     }
 }

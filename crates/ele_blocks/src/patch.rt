@@ -4,8 +4,8 @@ ghost use Rattle.std.specs.Prelude.{◌≡◌, ℕ, ◌<◌, ◌+◌, ◌^◌, I
 ghost use Rattle.ele_content.specs.Content.{content_after_write, slot_bytes};
 ghost use Rattle.ele_blocks.specs.Pieces.{pieces};
 
+use crate::block::Block;
 use crate::slot::SLOT;
-use ele_lists::ByteList;
 use ele_moment::NoMemory;
 use std::alloc::Global;
 
@@ -34,7 +34,7 @@ pub fn patched(
     slot: usize,
     offset: usize,
     bytes: &[u8],
-) -> Result<ByteList, NoMemory>
+) -> Result<Block, NoMemory>
     requires small { slot < 2 ^ 32 }
     requires fits { offset + length bytes.now < 2 ^ 32 }
     ensures { (content : List ℕ) → old.now ≡ slot_bytes content slot → IfOk result (λ new.
@@ -45,12 +45,12 @@ pub fn patched(
     let from = at.saturating_sub(offset).min(bytes.len());
     let past = (at + SLOT).saturating_sub(offset).min(bytes.len());
     let new = spliced(alloc, old, start, &bytes[from..past])?;
-    Ok(ByteList::from_vec(new))
+    Ok(Block::from_vec(new))
 }
 
 /// Cuts the bytes into pieces of 512; the last piece may be shorter.
 #[tactic(auto, using(crate::proofs::Cited::chunk_next, crate::proofs::Cited::append_assoc, crate::proofs::Cited::length_drop), unfolding(crate::specs::Pieces::pieces))]
-pub fn pieces(alloc: Global, all: &[u8]) -> Result<Vec<ByteList>, NoMemory>
+pub fn pieces(alloc: Global, all: &[u8]) -> Result<Vec<Block>, NoMemory>
     ensures { IfOk result (λ cut. cut.items ≡ pieces all.now) }
 {
     let count = all.len().div_ceil(SLOT);
@@ -58,7 +58,7 @@ pub fn pieces(alloc: Global, all: &[u8]) -> Result<Vec<ByteList>, NoMemory>
     let mut rest = all;
     for _ in 0..count {
         let (piece, more) = rest.split_at(rest.len().min(SLOT));
-        cut.push(ByteList::from_vec(Vec::from_slice(alloc, piece)?))?;
+        cut.push(Block::from_slice(alloc, piece)?)?;
         rest = more;
     }
     Ok(cut)

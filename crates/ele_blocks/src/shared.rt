@@ -8,6 +8,9 @@ use slab::Slab;
 use std::alloc::{AllocError, Global};
 use std::marker::Model;
 
+/// The largest number of places in a store: as many as 32 bits can number.
+const MOST: usize = 1 << 32;
+
 /// Values under numbers that the store picks. A value is removed with its last owner. The counts
 /// are in a list of their own, so that a change of hundreds of them reads no value.
 #[derive(Drop)]
@@ -52,24 +55,21 @@ impl<T: Drop> Shared<T> {
         Ok(self.put_reserved(value))
     }
 
-    /// Reserves memory for so many more values.
+    /// Reserves memory for so many more values, each with a number of 32 bits.
     pub fn reserve(&mut self, more: usize) -> Result<(), AllocError>
         ensures room { OnOk result (HasRoomFor self.new more) }
+        ensures numbers { OnOk result (self.new.capacity ≤ 2 ^ 32) }
         ensures same { self.new.slots ≡ self.old.slots }
     {
         self.values.reserve(more)?;
         let capacity = self.values.capacity();
+        if capacity > MOST {
+            return Err(AllocError);
+        }
         if self.owners.len() < capacity {
             self.owners.resize(capacity, 0)?;
         }
         Ok(())
-    }
-
-    /// Returns how many values fit into the reserved memory, with those that are there.
-    pub fn capacity(&self) -> usize
-        ensures { 0 < self.now.capacity → result ≡ self.now.capacity }
-    {
-        self.values.capacity()
     }
 
     /// Adds a value with one owner, in reserved memory.
@@ -91,7 +91,7 @@ impl<T: Drop> Shared<T> {
 
     /// Adds each of the values with one owner, and returns their numbers in the same order. If
     /// memory is refused, it adds none, and the store is as it was.
-    pub fn put_all(&mut self, alloc: Global, values: Vec<T>) -> Result<Vec<usize>, AllocError>
+    pub fn put_all(&mut self, alloc: Global, values: Vec<T>) -> Result<Vec<u32>, AllocError>
         ensures adds { IfOk result (λ ids. Adds self.old.slots self.new.slots ids.items) }
         ensures values { IfOk result (λ ids.
             map (value_at self.new.slots) ids.items ≡ map Some values.items) }
@@ -165,14 +165,15 @@ impl<T: Drop> Shared<T> {
 }
 
 // Adds each of the values with one owner, in reserved memory.
-fn put_each<T: Drop>(store: &mut Shared<T>, ids: &mut Vec<usize>, values: Vec<T>)
+fn put_each<T: Drop>(store: &mut Shared<T>, ids: &mut Vec<u32>, values: Vec<T>)
     requires room { HasRoomFor store.old (vec_len values) }
+    requires numbers { store.old.capacity ≤ 2 ^ 32 }
     requires room_ids { vec_len ids.old + vec_len values ≤ vec_capacity ids.old }
     requires empty { ids.old.items ≡ [] }
     ensures adds { Adds store.old.slots store.new.slots ids.new.items }
     ensures values { map (value_at store.new.slots) ids.new.items ≡ map Some values.items }
 {
     for value in values {
-        ids.push_reserved(store.put_reserved(value));
+        ids.push_reserved(store.put_reserved(value) as u32);
     }
 }

@@ -11,9 +11,9 @@ ghost use Rattle.ele_blocks.specs.Store.{no_blocks, owners_at, block_at, bytes_a
 pub(crate) mod leaves;
 mod shares;
 
+use crate::block::Block;
 use crate::leaf::Leaf;
 use crate::shared::Shared;
-use ele_lists::ByteList;
 use ele_moment::NoMemory;
 use std::alloc::Global;
 use std::marker::Model;
@@ -38,7 +38,7 @@ impl Model for BlockId {
 /// the maps of this store that have it. Each slot of a leaf owns its block.
 #[derive(Drop)]
 pub struct BlockStore {
-    blocks: Shared<ByteList>,
+    blocks: Shared<Block>,
     leaves: Shared<Leaf>,
     alloc: Global,
 }
@@ -74,8 +74,8 @@ impl BlockStore {
         ensures leaves { self.new.leaves ≡ self.old.leaves }
         ensures err { OnErr result (self.new ≡ self.old) }
     {
-        let bytes = ByteList::from_vec(Vec::from_slice(self.alloc, bytes)?);
-        let key = self.blocks.put(bytes)?;
+        let block = Block::from_slice(self.alloc, bytes)?;
+        let key = self.blocks.put(block)?;
         Ok(BlockId { key })
     }
 

@@ -9,6 +9,7 @@ ghost use Rattle.ele_blocks.specs.LivesIn.{LivesIn};
 ghost use Rattle.ele_blocks.specs.Pieces.{pieces_between};
 ghost use Rattle.ele_blocks.specs.Renewed.{IsReplaced};
 
+use crate::block::Block;
 use crate::laid::lay_leaves;
 use crate::leaf::LEAF;
 use crate::map::BlockMap;
@@ -16,7 +17,6 @@ use crate::patch::{patched, pieces};
 use crate::slot::SLOT;
 use crate::store::BlockStore;
 use crate::store::leaves::Stage;
-use ele_lists::ByteList;
 use ele_moment::{NoMemory, VersionNo};
 
 /// New bytes for slots: how many slots before are kept, the first new slot, and the bytes of each
@@ -26,7 +26,7 @@ struct Change {
     writer: VersionNo,
     kept: usize,
     first: usize,
-    staged: Vec<ByteList>,
+    staged: Vec<Block>,
 }
 
 /// A run of leaves to replace. The change meets the slots of the leaves from the first to before
@@ -112,7 +112,7 @@ impl BlockMap {
         first: usize,
         offset: usize,
         bytes: &[u8],
-    ) -> Result<Vec<ByteList>, NoMemory>
+    ) -> Result<Vec<Block>, NoMemory>
         requires lives { LivesIn store.now self.now }
         requires fits { offset + length bytes.now ≤ longest_content }
         requires starts { 512 * first ≤ offset }

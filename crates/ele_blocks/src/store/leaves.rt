@@ -1,6 +1,6 @@
 //! Leaves, as they get and lose owners.
 //! A contract sees how the owners of leaves change, and with them the owners of blocks.
-ghost use Rattle.std.specs.Prelude.{◌≡◌, ◌<◌, ◌≤◌, ◌+◌, ◌^◌, [], ◌∷◌, OnOk, OnErr, IfOk, Some, length, map, max, vec_len, vec_capacity};
+ghost use Rattle.std.specs.Prelude.{◌≡◌, ◌≢◌, ◌<◌, ◌≤◌, ◌+◌, ◌^◌, [], ◌∷◌, OnOk, OnErr, IfOk, Some, length, map, max, vec_len, vec_capacity};
 ghost use Rattle.slab.specs.Slab.{HasRoomFor};
 ghost use Rattle.ele_blocks.specs.Hands.{Hands, AreThere};
 ghost use Rattle.ele_blocks.specs.Layout.{ids_of};
@@ -9,18 +9,18 @@ ghost use Rattle.ele_blocks.specs.Renewed.{IsLaid, IsRenewed, parts};
 ghost use Rattle.ele_blocks.specs.Shared.{Covers, Adds, owners, times, value_at};
 ghost use Rattle.ele_blocks.specs.Store.{leaf_at, slots_in};
 
+use crate::block::Block;
 use crate::laid::lay_slots;
-use crate::leaf::{LEAF, Leaf};
+use crate::leaf::{LEAF, Leaf, LeafRoom};
 use crate::shared::Shared;
 use crate::slot::Slot;
 use crate::store::BlockStore;
 use crate::store::shares::share_all;
-use ele_lists::ByteList;
 use ele_moment::{NoMemory, VersionNo};
 use std::alloc::Global;
 
-/// The largest number of leaves in a store: as many as 32 bits can number.
-const MOST: usize = 1 << 32;
+/// The versions whose numbers fit into a slot are before this one.
+const NO_WRITER: u64 = 1 << 32;
 
 /// New slots for a run of leaves: their bytes, from this place on.
 #[derive(Drop)]
@@ -28,25 +28,30 @@ pub(crate) struct Stage {
     pub window: Vec<Slot>,
     pub first: usize,
     pub writer: VersionNo,
-    pub staged: Vec<ByteList>,
+    pub staged: Vec<Block>,
 }
 
-// Reserves memory for so many more leaves, each with a number of 32 bits.
-fn reserve_leaves(leaves: &mut Shared<Leaf>, more: usize) -> Result<(), NoMemory>
-    ensures room { OnOk result (HasRoomFor leaves.new more) }
-    ensures numbers { OnOk result (leaves.new.capacity ≤ 2 ^ 32) }
-    ensures same { leaves.new.slots ≡ leaves.old.slots }
+// Takes memory for the leaves of so many slots. A leaf of one slot needs none.
+fn rooms_for(alloc: Global, slots: usize) -> Result<Vec<LeafRoom>, NoMemory>
+    requires { slots < 2 ^ 62 }
+    ensures { IfOk result (λ rooms. slots ≢ 1 → vec_len rooms ≡ leaf_count slots) }
 {
-    leaves.reserve(more)?;
-    if leaves.capacity() > MOST {
-        return Err(NoMemory);
+    let mut rooms = Vec::new(alloc);
+    if slots == 1 {
+        return Ok(rooms);
     }
-    Ok(())
+    let count = slots.div_ceil(LEAF);
+    rooms.reserve(count)?;
+    for _ in 0..count {
+        rooms.push(LeafRoom::new(alloc)?)?;
+    }
+    Ok(rooms)
 }
 
-// Adds the slots as new leaves in reserved memory, and their numbers to the list.
+// Adds the slots as new leaves of memory that was taken, and their numbers to the list.
 #[tactic(auto, using(crate::proofs::Cited::chunk_next, crate::proofs::Cited::puts_more, crate::proofs::Cited::length_drop, crate::proofs::Cited::length_append, crate::proofs::Cited::backing_put))]
-fn put_leaves(leaves: &mut Shared<Leaf>, ids: &mut Vec<u32>, slots: &[Slot])
+fn fill_leaves(leaves: &mut Shared<Leaf>, ids: &mut Vec<u32>, slots: &[Slot], rooms: Vec<LeafRoom>)
+    requires rooms { vec_len rooms ≡ leaf_count (length slots.now) }
     requires room { HasRoomFor leaves.old (leaf_count (length slots.now)) }
     requires room_ids { leaf_count (length slots.now) ≤ vec_capacity ids.old }
     requires empty { ids.old.items ≡ [] }
@@ -57,25 +62,55 @@ fn put_leaves(leaves: &mut Shared<Leaf>, ids: &mut Vec<u32>, slots: &[Slot])
         ≡ backing leaves.old.slots id + times id (ids_of slots.now) }
 {
     let mut rest = slots;
-    for _ in 0..slots.len().div_ceil(LEAF) {
+    for room in rooms {
         let (part, more) = rest.split_at(rest.len().min(LEAF));
-        ids.push_reserved(leaves.put_reserved(Leaf::new(part)) as u32);
+        ids.push_reserved(leaves.put_reserved(room.fill(part)) as u32);
         rest = more;
+    }
+}
+
+// Adds a leaf of one slot in reserved memory, and its number to the list.
+fn put_leaf(leaves: &mut Shared<Leaf>, ids: &mut Vec<u32>, slot: Slot)
+    requires room { HasRoomFor leaves.old 1 }
+    requires room_ids { 1 ≤ vec_capacity ids.old }
+    requires empty { ids.old.items ≡ [] }
+    requires numbers { leaves.old.capacity ≤ 2 ^ 32 }
+    ensures adds { Adds leaves.old.slots leaves.new.slots ids.new.items }
+    ensures values { map (value_at leaves.new.slots) ids.new.items ≡ map Some (parts (slot ∷ [])) }
+    ensures backing { (id : _) → backing leaves.new.slots id
+        ≡ backing leaves.old.slots id + times id (ids_of (slot ∷ [])) }
+{
+    ids.push_reserved(leaves.put_reserved(Leaf::one(slot)) as u32);
+}
+
+// Adds the slots as new leaves in reserved memory, and their numbers to the list.
+fn put_leaves(leaves: &mut Shared<Leaf>, ids: &mut Vec<u32>, slots: &[Slot], rooms: Vec<LeafRoom>)
+    requires rooms { length slots.now ≢ 1 → vec_len rooms ≡ leaf_count (length slots.now) }
+    requires room { HasRoomFor leaves.old (leaf_count (length slots.now)) }
+    requires room_ids { leaf_count (length slots.now) ≤ vec_capacity ids.old }
+    requires empty { ids.old.items ≡ [] }
+    requires numbers { leaves.old.capacity ≤ 2 ^ 32 }
+    ensures adds { Adds leaves.old.slots leaves.new.slots ids.new.items }
+    ensures values { map (value_at leaves.new.slots) ids.new.items ≡ map Some (parts slots.now) }
+    ensures backing { (id : _) → backing leaves.new.slots id
+        ≡ backing leaves.old.slots id + times id (ids_of slots.now) }
+{
+    if let [slot] = slots {
+        put_leaf(leaves, ids, *slot);
+    } else {
+        fill_leaves(leaves, ids, slots, rooms);
     }
 }
 
 // Makes new blocks for the staged bytes, and the window of slots with these in it. The block of
 // every other slot gets one owner more. If memory is refused, the blocks are as they were.
-fn lay_stage(
-    blocks: &mut Shared<ByteList>,
-    alloc: Global,
-    stage: Stage,
-) -> Result<Vec<Slot>, NoMemory>
+fn lay_stage(blocks: &mut Shared<Block>, alloc: Global, stage: Stage) -> Result<Vec<Slot>, NoMemory>
     requires there { (id : _) → 0 < times id (ids_of stage.window.items)
         → 0 < owners blocks.old.slots id }
     requires few { (id : _) → 0 < times id (ids_of stage.window.items)
         → owners blocks.old.slots id < 2 ^ 62 }
     requires within { stage.first ≤ vec_len stage.window }
+    requires writer { stage.writer < 2 ^ 32 }
     requires small { vec_len stage.window + vec_len stage.staged < 2 ^ 61 }
     ensures laid { IfOk result (λ slots. IsLaid blocks.old.slots blocks.new.slots
         stage.window.items stage.first stage.writer stage.staged.items slots.items) }
@@ -164,8 +199,9 @@ impl BlockStore {
 
     /// Makes new leaves and blocks in place of these leaves, each of which loses an owner. The new
     /// leaves name the blocks that stay, so these have one owner more until the old leaf is
-    /// removed. If memory is refused, the store is as it was. Memory also counts as refused if a
-    /// block has 2^62 owners, or if the store would have more than 2^32 leaves.
+    /// removed. If memory is refused, the store is as it was. Memory also counts as refused if the
+    /// writer's number or that of a new block or leaf doesn't fit into 32 bits, or if a block has
+    /// 2^62 owners.
     pub(crate) fn renew(&mut self, was: &[u32], stage: Stage) -> Result<Vec<u32>, NoMemory>
         requires owned { Covers self.old.leaves was.now }
         requires backed { AreBacked self.old (slots_in self.old was.now) }
@@ -176,15 +212,17 @@ impl BlockStore {
             stage.window.items stage.first stage.writer stage.staged.items now.items) }
         ensures err { OnErr result (self.new ≡ self.old) }
     {
-        if !self.can_share(&stage.window) {
+        if stage.writer.0 >= NO_WRITER || !self.can_share(&stage.window) {
             return Err(NoMemory);
         }
         let past = stage.first + stage.staged.len();
-        let count = past.max(stage.window.len()).div_ceil(LEAF);
+        let length = past.max(stage.window.len());
+        let count = length.div_ceil(LEAF);
         let mut now = Vec::with_capacity(self.alloc, count)?;
-        reserve_leaves(&mut self.leaves, count)?;
+        let rooms = rooms_for(self.alloc, length)?;
+        self.leaves.reserve(count)?;
         let slots = lay_stage(&mut self.blocks, self.alloc, stage)?;
-        put_leaves(&mut self.leaves, &mut now, &slots);
+        put_leaves(&mut self.leaves, &mut now, &slots, rooms);
         self.release_leaves(was);
         Ok(now)
     }

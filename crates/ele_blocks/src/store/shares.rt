@@ -6,16 +6,16 @@ ghost use Rattle.ele_blocks.specs.Layout.{ids_of};
 ghost use Rattle.ele_blocks.specs.Shared.{Sets, Trades, Covers, owners, place_at, shared, times};
 ghost use Rattle.ele_blocks.specs.Store.{owners_at};
 
+use crate::block::Block;
 use crate::shared::Shared;
 use crate::slot::Slot;
 use crate::store::{BlockId, BlockStore};
-use ele_lists::ByteList;
 
 /// A block with so many owners gets no more.
 const CROWD: u64 = 1 << 62;
 
 // Adds an owner to a block.
-fn share_one(blocks: &mut Shared<ByteList>, id: BlockId)
+fn share_one(blocks: &mut Shared<Block>, id: BlockId)
     requires there { 0 < owners blocks.old.slots id }
     requires few { owners blocks.old.slots id < 2 ^ 63 }
     ensures { Sets blocks.old.slots blocks.new.slots id (shared (place_at blocks.old.slots id)) }
@@ -25,14 +25,14 @@ fn share_one(blocks: &mut Shared<ByteList>, id: BlockId)
 
 /// Adds an owner to the block of each slot.
 #[tactic(auto, using(crate::proofs::Lemmas::slot_named, crate::proofs::Lemmas::share_next, crate::proofs::Lemmas::share_few, crate::proofs::Lemmas::share_more))]
-pub fn share_all(blocks: &mut Shared<ByteList>, slots: &[Slot])
+pub fn share_all(blocks: &mut Shared<Block>, slots: &[Slot])
     requires there { (id : _) → 0 < times id (ids_of slots.now) → 0 < owners blocks.old.slots id }
     requires few { (id : _) → 0 < times id (ids_of slots.now)
         → owners blocks.old.slots id + length slots.now ≤ 2 ^ 63 }
     ensures { Trades blocks.old.slots blocks.new.slots [] (ids_of slots.now) }
 {
     for slot in slots {
-        share_one(blocks, slot.block);
+        share_one(blocks, slot.block.block());
     }
 }
 
@@ -45,7 +45,7 @@ impl BlockStore {
             → (id : _) → 0 < times id (ids_of slots.now) → owners_at self.now id < 2 ^ 62 }
     {
         for slot in slots {
-            if self.owners(slot.block) >= CROWD {
+            if self.owners(slot.block.block()) >= CROWD {
                 return false;
             }
         }
@@ -60,7 +60,7 @@ impl BlockStore {
         ensures leaves { self.new.leaves ≡ self.old.leaves }
     {
         for slot in slots {
-            self.release(slot.block);
+            self.release(slot.block.block());
         }
     }
 }

@@ -10,5 +10,6 @@ loop-value-preserved g c =
       puts = rw c.push_reserved.ensures.items (puts_more _ _ _ _ _ _ _ _ was c.put_reserved.ensures.vacant c.put_reserved.ensures.sets);
       left = omega (arith, step, size);
       room = c.put_reserved.ensures.room _ (omega (arith, step));
+      numbers = omega (arith, c.put_reserved.ensures.capacity, c.loop-value.invariant.numbers);
       room_ids = omega (arith, step);
     }

@@ -1,4 +1,4 @@
-use Rattle.ele_blocks.proofs.Cited.{arith, get_or_default_zero, is_counted, leaves_with_last, owned_gone, owners, owners-counted, sets_gone, sets_less}
+use Rattle.ele_blocks.proofs.Cited.{arith, get_or_default_zero, is_counted, leaves_with_last, owned_gone, owners-counted, sets_gone, sets_less}
 use Rattle.ele_blocks.proofs.shared.Shared.release.Goals as goal
 
 pub returns-then-index-gt1-clause-sets : goal.returns-then-index-gt1-clause-sets

@@ -15,7 +15,9 @@ back : (c : After-split_at-2) → length c.in_ok-fresh.fresh.items ≡ length c.
 back c count = grind (arith, drop_min)
 
 pub share_all-requires : goal.share_all-requires
-share_all-requires c = grind (arith, front_ready)
+share_all-requires c =
+    let at = (goal.at.share_all-requires c).After-split_at in
+    grind (arith, front_ready (staged at), front at)
 
 pub share_all-requires-2 : goal.share_all-requires-2
 share_all-requires-2 c =
