@@ -1,68 +1,20 @@
--- What becomes of a held version: by the groups that have its file, and by what its policy alone makes of it.
-use Rattle.ele_state.proofs.Words.{IsLawful, Case, Rule, case_moment, moment_is, ripe_case, rule_in, rule_of, is_live, ◌≡◌, ℕ, ◌≤◌, ◌&&◌, Bool, true, false, List, [], ◌∷◌, Option, Some, None, IfSome, IsSome, refl, ap, sym, subst, ◌∙◌, arith, nat_tests, nat_le, find, slice_get, take, option_map, option_map_or, AllByRecursion, AllLater, all-found, any-found, found_passes, bytes_eq-Decides, IsSound, IsInfoOf, Rows, world_of, Held, Policy, GroupRow, VersionInfo, VersionRow, Versions, World, Cover, MarkRow, cover_of, ripe_past, option_and_then, file_view, is_open, is_version, policy_of, info_of, in_order_of, ripe_at_is}
-use Rattle.ele_state.proofs.Changes.{none_any}
-use Rattle.ele_lists.proofs.Taken.{all-at, find-first_at}
-use Rattle.ele_model.proofs.Basics.{zero, suc}
+-- What becomes of a held version.
+use Rattle.ele_state.proofs.Words.{Rule, case_moment, moment_is, rule_in, rule_of, is_live, ◌≡◌, ℕ, Bool, true, false, Option, Some, None, IsSome, refl, ap, sym, subst, ◌∙◌, arith, nat_tests, nat_le, find, slice_get, option_map, option_map_or, all-found, found_passes, IsSound, IsInfoOf, Rows, world_of, Held, Policy, VersionInfo, VersionRow, Versions, World, cover_of, file_view, is_open, is_version, policy_of, info_of, in_order_of, ripe_at_is}
 use Rattle.ele_model.proofs.Words.{IsVersion, Now}
-use Rattle.std.specs.Str.{bytes_eq}
 use Rattle.ele_policy.specs.RipeCase.{closing_of}
 use Rattle.ele_policy.specs.declared.cause.Cause.{Cause}
 use Rattle.ele_policy.specs.declared.cause.Newer.{Newer}
-use Rattle.ele_moment.specs.Last.{last_moment}
-use Rattle.ele_policy.specs.Ripe.{is_due_by}
-use Rattle.ele_policy.specs.RipeCase.{alone, ripe_by}
 use Rattle.ele_files.specs.Beside.{IsBeside}
 use Rattle.ele_files.specs.declared.files.newer.Beside.{Beside}
-use Rattle.ele_groups.specs.Rows.{row_of}
-use Rattle.ele_state.specs.Fated.{IsCauseBy, IsFreeFate, MarksAt, newer_of}
+use Rattle.ele_fates.specs.Fate.{IsCauseBy, IsFreeFate, newer_of}
 use Rattle.ele_model.proofs.Fates.{nearest_newer, protected_told}
 use Rattle.ele_model.proofs.RipeMoments.{ripens}
 use Rattle.ele_model.specs.Due.{is_due_at, ripe_of}
 use Rattle.ele_model.specs.Fate.{HasCause, HasFate, IsFate, IsMarkedBy, newer_version, newer_versions}
-use Rattle.ele_model.specs.GroupRows.{group_named, has_covering, has_member, is_marked, is_member, keeps_at}
+use Rattle.ele_model.specs.GroupRows.{is_marked}
 use Rattle.ele_model.specs.Neighbours.{case_in, is_newer_of}
 use Rattle.ele_model.specs.declared.fate.Fate.{Fate}
 use Rattle.ele_model.specs.declared.fate.Fate.TheVariants.{Current, Open, Marked, Kept, Due}
-
--- ---- the groups that have the file
-
-abbrev AreNamedApart : List GroupRow → Type 0
-AreNamedApart rows = AllLater (λ (earlier : GroupRow) later. bytes_eq earlier.name later.name ≡ false) rows
-
-own_name : (name : List ℕ) → bytes_eq name name ≡ true
-own_name name = (bytes_eq-Decides name name).1 refl
-
--- each name is there once, so the group at a place is the one of its name
-named_at : (rows : List GroupRow) (place : ℕ) (row : GroupRow) → AreNamedApart rows → slice_get rows place ≡ Some row → group_named rows row.name ≡ Some row
-named_at [] place row apart is = absurd (cc)
-named_at (x ∷ xs) zero row apart is = let same : x ≡ row = cc in rw (← same, own_name x.name) refl
-named_at (x ∷ xs) (suc place) row apart is = rw (all-at (λ (later : GroupRow). bytes_eq x.name later.name ≡ false) xs place row is apart.0) (named_at xs place row apart.1 is)
-
-module _ (rows : List GroupRow) (place : ℕ) (name files : List ℕ) (marks : List MarkRow) (file closed : ℕ) (ended : Option ℕ) (now : ℕ) (apart : AreNamedApart rows) (at : slice_get rows place ≡ Some (row_of name files marks)) where
-  member_is : has_member rows name file ≡ is_member file (row_of name files marks)
-  member_is = ap (λ (o : Option GroupRow). option_map_or (is_member file) o false) (named_at rows place (row_of name files marks) apart at)
-
-  abbrev Unmarked : Type 0
-  Unmarked = IfSome (slice_get rows place) (λ group. (is_member file group && has_covering closed ended now group) ≡ false)
-
-  pub no_member : has_member rows name file ≡ false → Unmarked
-  no_member is = let none : is_member file (row_of name files marks) ≡ false = sym member_is ∙ is in rw (at, none) refl
-
-  pub no_mark : find (keeps_at closed ended now) marks ≡ None → Unmarked
-  no_mark is = let none = none_any (keeps_at closed ended now) marks is in rw (at, none) (grind (arith, nat_tests))
-
-  pub its_mark : (mark : MarkRow) → has_member rows name file ≡ true → find (keeps_at closed ended now) marks ≡ Some mark → MarksAt rows place file closed ended now name mark
-  its_mark mark is found = record { group = row_of name files marks; there = at; member = sym member_is ∙ is; named = refl; first = found }
-
--- ---- the first of them that has a mark
-
-abbrev pub is_marking : ℕ → ℕ → Option ℕ → ℕ → GroupRow → Bool
-is_marking file closed ended now group = is_member file group && has_covering closed ended now group
-
-pub marked_first : (rows : List GroupRow) (place file closed : ℕ) (ended : Option ℕ) (now : ℕ) (name : List ℕ) (mark : MarkRow) → AllByRecursion (λ g. is_marking file closed ended now g ≡ false) (take place rows) → MarksAt rows place file closed ended now name mark → IsMarkedBy rows file closed ended now name mark
-marked_first rows place file closed ended now name mark none its =
-    let passes = any-found (keeps_at closed ended now) (keeps_at closed ended now) its.group.marks mark its.first (found_passes (keeps_at closed ended now) its.group.marks mark its.first) in
-    record { group = its.group; first_group = find-first_at (is_marking file closed ended now) rows place its.group none its.there (rw (its.member, passes) refl); named = its.named; first_mark = its.first }
 
 -- ---- by its row
 
@@ -151,21 +103,6 @@ module _ (rows : Rows) (sound : IsSound rows) (row : VersionRow) (found : find (
       level_is = is.2 ∙ rw (filed, free.ends) refl;
     }
     made_fate (Due since cause) is = let ripe = ripe_told ∙ is.0 in record { due = due_told (Some since) ripe ∙ is.1; ripe = ripe; why = cause_is since cause is.2 }
-
--- ---- why it is due
-
-case_alone : (case : Case) (ended r : ℕ) → ripe_case case ended ≡ Some r → ripe_by case.policy case.closed (alone case.next_closed) ended ≡ Some r
-case_alone case ended r is = grind (arith, nat_tests, is)
-
--- what ripens is due from then on beside its nearest newer one alone
-pub due_alone : (cover : Cover) (case : Case) (nearest : Option ℕ) (ended since : ℕ) → case.next_closed ≡ nearest → IsLawful case.policy → since ≤ last_moment → option_and_then (ripe_past cover) (ripe_case case ended) ≡ Some since
-    → is_due_by case.policy case.closed (alone nearest) ended since ≡ true
-due_alone cover case nearest ended since next given fits is = rw (← next) (by (ripe_case case ended) refl is) where
-  by : (o : Option ℕ) → ripe_case case ended ≡ o → option_and_then (ripe_past cover) o ≡ Some since → is_due_by case.policy case.closed (alone case.next_closed) ended since ≡ true
-  by None none h = absurd cc
-  by (Some r) some h = given.due_from case.closed ended since (alone case.next_closed) fits ∙ rw (case_alone case ended r some) (past cover r h) where
-    past : (c : Cover) (r : ℕ) → ripe_past c r ≡ Some since → nat_le r since ≡ true
-    past x0 r h = grind (arith, nat_tests, h)
 
 -- ---- by its info
 

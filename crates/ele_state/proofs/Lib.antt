@@ -9,7 +9,6 @@ pub mod Booked
 pub mod Questions
 pub mod Appended
 pub mod NewNames
-pub mod OtherGroups
 pub mod Marked
 pub mod Made
 pub mod Fresh

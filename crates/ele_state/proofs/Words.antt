@@ -4,13 +4,16 @@ pub use Rattle.ele_state.specs.Home.{IsHome, IsPresent}
 pub use Rattle.ele_state.specs.Inside.{IsSettled, IsSound, IsTracked, shown_of, world_of}
 pub use Rattle.ele_state.specs.Shown.{Shown}
 pub use Rattle.ele_state.specs.Source.{IsReady, IsRoomy, IsSource, Origin, appending, coming, origin, source_cells}
-pub use Rattle.ele_state.specs.Queued.{AreChanges, IsQueued, IsRekeyed, IsInfoOf, few_enough, former_moment, freed_moment, gained_moment, is_alone, is_entry, is_freed, is_one, is_own, new_keys, HasLeaving, change_of, comes, cover_after, files_of, goes, if_changed, moments_by, moments_of, unread_under}
+pub use Rattle.ele_state.specs.Queued.{AreChanges, IsQueued, IsInfoOf, former_moment, freed_moment, gained_moment, is_alone, is_freed, is_one, is_own, new_keys, moments_by, unread_under}
 pub use Rattle.ele_state.specs.Tracked.{IsBooked, IsFew, IsOwed, IsOwedBy, blocks_of, held_world, of_file, one_version, only_blocks}
-pub use Rattle.ele_state.specs.declared.keys.KeyChange.{KeyChange}
-pub use Rattle.ele_state.specs.declared.mark.GroupChange.{GroupChange}
-pub use Rattle.ele_state.specs.declared.mark.GroupChange.TheVariants.{Dropped, Joined, Left, Marked, Unmarked}
 pub use Rattle.ele_state.specs.declared.rows.Rows.{Rows}
 pub use Rattle.ele_due.specs.declared.key.Key.{Key}
+pub use Rattle.ele_fates.specs.Alone.{few_enough}
+pub use Rattle.ele_fates.specs.Change.{HasLeaving, change_of, cover_after, files_of, moments_of}
+pub use Rattle.ele_fates.specs.Keys.{IsRekeyed, comes, goes, if_changed, is_entry}
+pub use Rattle.ele_fates.specs.declared.change.GroupChange.{GroupChange}
+pub use Rattle.ele_fates.specs.declared.change.GroupChange.TheVariants.{Dropped, Joined, Left, Marked, Unmarked}
+pub use Rattle.ele_fates.specs.declared.keys.KeyChange.{KeyChange}
 pub use Rattle.ele_files.specs.Closing.{IsPast, finishing, last_draft, leaving, left_by, left_of, opening_by}
 pub use Rattle.ele_files.specs.Held.{Held, cells_of_draft, cells_of_version, changed_at, current_ended, opened_by, rows_after, rows_of, with_rows, without}
 pub use Rattle.ele_lists.proofs.Sums.{any-count, count-update_first, sum_by-insert_before, sum_by-map, sum_by-remove_first, sum_by-update_same}

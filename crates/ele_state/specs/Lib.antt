@@ -3,7 +3,6 @@ pub mod Full
 pub mod Home
 pub mod Told
 pub mod Queued
-pub mod Fated
 pub mod Tracked
 pub mod Inside
 pub mod Source

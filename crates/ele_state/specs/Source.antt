@@ -3,6 +3,7 @@ use Rattle.std.specs.Prelude.{◌≡◌, ℕ, Bool, ◌+◌, ◌≤◌, ◌<◌,
 use Rattle.std.specs.List.{AllByRecursion, list_any}
 use Rattle.ele_content.specs.declared.cell.Cell.{Cell}
 use Rattle.ele_content.specs.Content.{content_of, longest_content}
+use Rattle.ele_fates.specs.declared.keys.KeyChange.{KeyChange}
 use Rattle.ele_files.specs.Closing.{IsPast, finishing, opening_by}
 use Rattle.ele_files.specs.Held.{Held, cells_of_draft, cells_of_version}
 use Rattle.ele_lists.specs.Lists.{AllLater}
@@ -15,7 +16,6 @@ use Rattle.ele_state.specs.Queued.{new_keys}
 use Rattle.ele_state.specs.Tracked.{IsFew}
 use Rattle.ele_state.specs.declared.append.Source.{Source}
 use Rattle.ele_state.specs.declared.append.Source.TheVariants as source
-use Rattle.ele_state.specs.declared.keys.KeyChange.{KeyChange}
 use Rattle.ele_state.specs.declared.rows.Rows.{Rows}
 use Rattle.ele_usage.specs.Book.{Book, sums_of}
 use Rattle.ele_model.specs.Change.{Change, Append}

@@ -1,33 +1,30 @@
 //! A new version of a file: where its content comes from, the keys that are added with it, and what
 //! it uses.
-ghost use Rattle.std.specs.Prelude.{◌≡◌, ◌<◌, ◌-◌, ◌||◌, true, false, Some, None, IfOk, OnOk, OnErr, is_some, length, option_and_then};
+ghost use Rattle.std.specs.Prelude.{◌≡◌, ◌<◌, ◌-◌, ◌||◌, true, false, Some, IfOk, OnOk, OnErr, length, option_and_then};
 ghost use Rattle.std.specs.Option.{option_map};
 ghost use Rattle.ele_content.specs.Content.{content_of};
 ghost use Rattle.ele_due.specs.declared.key.Key.{Key};
 ghost use Rattle.ele_due.specs.HasKey.{has_key};
+ghost use Rattle.ele_fates.specs.Keys.{comes};
 ghost use Rattle.ele_files.specs.Held.{Became};
 ghost use Rattle.ele_files.specs.FileHead.{Stands};
 ghost use Rattle.ele_lists.specs.Lists.{AllLater};
 ghost use Rattle.ele_model.specs.Change.{after_changes};
-ghost use Rattle.ele_model.specs.Cover.{cover_of};
-ghost use Rattle.ele_model.specs.Neighbours.{case_moment, with_newer};
+ghost use Rattle.ele_model.specs.Neighbours.{with_newer};
 ghost use Rattle.ele_model.specs.Told.{info_of};
 ghost use Rattle.ele_model.specs.WellFormed.{ArePlaced};
 ghost use Rattle.ele_model.specs.World.{next_of};
-ghost use Rattle.ele_policy.specs.RipeCase.{case_of};
 ghost use Rattle.ele_state.specs.Inside.{world_of};
-ghost use Rattle.ele_state.specs.Queued.{comes, few_enough, former_key, former_moment, own_key};
+ghost use Rattle.ele_state.specs.Queued.{former_key, former_moment, own_key};
 ghost use Rattle.ele_state.specs.Source.{IsReady, IsRoomy, appending, coming, origin, source_cells};
 ghost use Rattle.ele_state.specs.Tracked.{IsBooked};
 
 use crate::book::{blocks, charge_blocks, one_version};
-use crate::keys::{KeyChange, new_key, put_changed, take_back};
-use crate::moments::case_moment;
 use crate::rows::Rows;
+use ele_fates::{KeyChange, case_moment, case_of, new_key, put_changed, ripens_alone, take_back};
 use ele_files::{FileHead, Files, NewVersion};
-use ele_groups::Groups;
 use ele_model::{FileId, Moment, NoMemory, VersionInfo, VersionNo};
-use ele_policy::{Case, Rule};
+use ele_policy::Rule;
 use ele_sessions::FoundHandle;
 
 // The source of a file's next version: the draft that was opened then, with its last handle, the
@@ -49,34 +46,6 @@ pub fn head(files: &Files, file: FileId) -> FileHead
         unreachable!()
     };
     head
-}
-
-// A version of the rule's file that closed at `closed`, with the next one's closing, and whether it
-// has enough newer ones.
-fn case_of(rule: &Rule, closed: Moment, next_closed: Option<Moment>, enough: bool) -> Case
-    ensures { result ≡ case_of rule.now.policy closed next_closed enough }
-{
-    Case {
-        policy: rule.policy,
-        closed,
-        next_closed,
-        enough,
-    }
-}
-
-// Whether a version without a newer one has a ripe moment under the rule, if one newer version
-// fewer than the rule asks for is enough.
-fn ripens_alone(groups: &Groups, file: FileId, rule: &Rule, info: &VersionInfo) -> bool
-    ensures { result ≡ is_some (option_and_then (case_moment (cover_of groups.now file)
-        (case_of rule.now.policy info.now.closed None (few_enough rule.now))) info.now.ended) }
-{
-    match info.ended {
-        Some(ended) => {
-            let case = &case_of(rule, info.closed, None, rule.newer == 0);
-            case_moment(groups, file, case, ended).is_some()
-        }
-        None => false,
-    }
 }
 
 // The info of the held version with so many newer ones. The head has the info of the newest

@@ -6,7 +6,8 @@ ghost use Rattle.ele_model.specs.GroupRows.{has_group, has_member, is_marked_at}
 ghost use Rattle.ele_model.specs.World.{next_of};
 
 use crate::State;
-use crate::mark::{GroupChange, regroup};
+use crate::mark::regroup;
+use ele_fates::GroupChange;
 use ele_model::{FileId, GroupList, MarkRow, Moment, Name, NoMemory};
 
 impl State {

@@ -21,7 +21,6 @@ mod due;
 mod fate;
 mod file;
 mod group;
-mod keys;
 mod mark;
 mod moments;
 mod name;

@@ -2,12 +2,12 @@
 //! their groups.
 ghost use Rattle.std.specs.Prelude.{◌≡◌};
 ghost use Rattle.ele_model.specs.Cover.{cover_of};
-ghost use Rattle.ele_model.specs.Neighbours.{case_in, case_moment, free_moment, rule_of};
+ghost use Rattle.ele_model.specs.Neighbours.{case_in, free_moment, rule_of};
 ghost use Rattle.ele_state.specs.Inside.{world_of};
 
 use crate::rows::Rows;
+use ele_fates::case_moment;
 use ele_files::Files;
-use ele_groups::Groups;
 use ele_model::{FileId, Moment, VersionInfo, VersionNo};
 use ele_policy::{Case, Rule};
 
@@ -29,15 +29,6 @@ pub fn case(files: &Files, file: FileId, rule: Rule, info: &VersionInfo) -> Case
         next_closed: files.next_closing(file, info.number),
         enough: files.has_newer(file, info.number, rule.newer),
     }
-}
-
-// When a version of that case ripens, by its end: not before the latest end of the marks that cover
-// it. None if one of them has no end, or if the version is never due.
-pub fn case_moment(groups: &Groups, file: FileId, case: &Case, ended: Moment) -> Option<Moment>
-    ensures { result ≡ case_moment (cover_of groups.now file) case.now ended }
-{
-    let ripe = case.ripe(ended)?;
-    groups.cover(file, case.closed, Some(ended)).ripe_past(ripe)
 }
 
 // When the file's version of that number ripens. None if it isn't held, has no end or never ripens.

@@ -13,9 +13,9 @@ ghost use Rattle.ele_state.specs.Inside.{world_of, IsTracked, IsSound};
 
 use crate::State;
 use crate::append::head;
-use crate::keys::put_changed;
 use crate::policy::freed;
 use crate::rows::Rows;
+use ele_fates::put_changed;
 use ele_model::{DirId, FileId, ListOf, Moment, Name, NameList, NameRow, NoMemory, Target};
 use ele_names::Found;
 

@@ -2,6 +2,7 @@
 //! live name.
 ghost use Rattle.std.specs.Prelude.{◌≡◌, ◌<◌, ◌+◌, ◌||◌, IfOk, OnOk, OnErr};
 ghost use Rattle.ele_due.specs.declared.key.Key.{Key};
+ghost use Rattle.ele_fates.specs.Keys.{comes, if_changed};
 ghost use Rattle.ele_files.specs.FileHead.{Stands};
 ghost use Rattle.ele_lists.specs.Lists.{AllLater};
 ghost use Rattle.ele_policy.specs.Policy.{IsPolicy};
@@ -9,13 +10,13 @@ ghost use Rattle.ele_model.specs.Change.{SetFilePolicy, after_change};
 ghost use Rattle.ele_model.specs.WellFormed.{ArePlaced};
 ghost use Rattle.ele_model.specs.World.{next_of};
 ghost use Rattle.ele_state.specs.Inside.{IsSound};
-ghost use Rattle.ele_state.specs.Queued.{AreChanges, IsInfoOf, comes, if_changed, is_freed, is_one, is_own, unread_under};
+ghost use Rattle.ele_state.specs.Queued.{AreChanges, IsInfoOf, is_freed, is_one, is_own, unread_under};
 
 use crate::State;
 use crate::append::with_newer;
-use crate::keys::{KeyChange, add_change, new_key, put_changed, remove_old_keys};
-use crate::moments::{case, case_moment};
+use crate::moments::case;
 use crate::rows::Rows;
+use ele_fates::{KeyChange, add_change, case_moment, new_key, put_changed, remove_old_keys};
 use ele_files::FileHead;
 use ele_model::{FileId, NoMemory, VersionInfo};
 use ele_policy::{Case, Policy, Rule};

@@ -17,9 +17,9 @@ use crate::State;
 use crate::append::{Source, append, head};
 use crate::book::{blocks, charge_blocks, one_version};
 use crate::file::drop_idle;
-use crate::keys::{take, take_back};
 use crate::path::file_in;
 use crate::policy::freed;
+use ele_fates::{take, take_back};
 use ele_model::{
     DirId, FileId, Key, Name, NoMemory, Refusal, StampsList, Tag, TaggedPath, Target, VersionInfo,
     VersionNo,

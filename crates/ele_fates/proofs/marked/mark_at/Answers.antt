@@ -1,6 +1,6 @@
-use Rattle.ele_state.proofs.Words.{Some, arith, nat_tests}
-use Rattle.ele_state.proofs.Fated.{its_mark, no_mark, no_member}
-use Rattle.ele_state.proofs.fate.mark_at.Goals as goal
+use Rattle.ele_fates.proofs.Words.{Some, arith, nat_tests}
+use Rattle.ele_fates.proofs.Marks.{its_mark, no_mark, no_member}
+use Rattle.ele_fates.proofs.marked.mark_at.Goals as goal
 
 pub returns-then-not-is_member-clause-none : goal.returns-then-not-is_member-clause-none
 returns-then-not-is_member-clause-none c =

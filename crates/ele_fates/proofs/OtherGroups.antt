@@ -1,5 +1,5 @@
 -- How long marks hold, by the rest when some marks of a group are removed, and by that group.
-use Rattle.ele_state.proofs.Words.{AllLater, Bool, Cover, GroupRow, List, MarkRow, None, Option, Some, [], arith, cover_of, cover_without, false, filter, has_member, list_any, longer, members_of, nat_tests, not, option_map_or, refl, sym, true, ℕ, ◌&&◌, ◌==◌, ◌||◌, ◌∙◌, ◌∷◌, ◌≡◌}
+use Rattle.ele_fates.proofs.Words.{AllLater, Bool, Cover, GroupRow, List, MarkRow, None, Option, Some, [], arith, cover_of, cover_without, false, filter, has_member, list_any, longer, members_of, nat_tests, not, option_map_or, refl, sym, true, ℕ, ◌&&◌, ◌==◌, ◌||◌, ◌∙◌, ◌∷◌, ◌≡◌}
 use Rattle.std.specs.Str.{bytes_eq}
 use Rattle.ele_model.proofs.Covers.{exceeds, exceeds_by, exceeds_longer, exceeds_same, reaches}
 use Rattle.ele_model.proofs.MarksChanged.{behind, is_over, is_rest, others_count, told_over, told_rest}

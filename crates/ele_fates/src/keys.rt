@@ -1,13 +1,16 @@
-//! Updates of the queue of keys.
+//! Changes of the keys of a queue.
+//! A contract sees which keys come and which go.
 ghost use Rattle.std.specs.Prelude.{◌≡◌, ◌++◌, ◌||◌, ◌&&◌, not, Some, None, OnOk, OnErr};
 ghost use Rattle.ele_due.specs.declared.key.Key.{Key};
 ghost use Rattle.ele_due.specs.HasKey.{has_key};
-ghost use Rattle.ele_state.specs.Queued.{IsRekeyed, comes, goes, if_changed};
+ghost use Rattle.ele_fates.specs.Keys.{IsRekeyed, comes, goes, if_changed};
 
-use ele_due::DueQueue;
-use ele_model::{FileId, Key, Moment, NoMemory, VersionNo};
+use ele_due::{DueQueue, Key};
+use ele_moment::{FileId, Moment, NoMemory, VersionNo};
 
-// Adds the key of the version with that moment, if there is one.
+/// Adds the key of the version with that moment, if there is one.
+///
+/// `NoMemory` if memory is refused; the queue is then as it was.
 pub fn put(
     queue: &mut DueQueue,
     file: FileId,
@@ -23,7 +26,7 @@ pub fn put(
     queue.insert(Key { ripe, file, number })
 }
 
-// Removes the key of the version with that moment, if there is one.
+/// Removes the key of the version with that moment, if there is one. It takes no memory.
 pub fn take(queue: &mut DueQueue, file: FileId, number: VersionNo, moment: Option<Moment>)
     ensures { IsRekeyed file number moment None queue.old queue.new }
 {
@@ -32,17 +35,21 @@ pub fn take(queue: &mut DueQueue, file: FileId, number: VersionNo, moment: Optio
     }
 }
 
-// A change of a version's ripe moment: the queue loses its old key, if it has one, and gets the new
-// one, if there is one.
+/// A change of a version's ripe moment: the queue loses its old key, if it has one, and gets the
+/// new one, if there is one.
 #[derive(Clone, Copy)]
 pub struct KeyChange {
+    /// The file.
     pub file: FileId,
+    /// The version's number.
     pub number: VersionNo,
+    /// Its old moment.
     pub was: Option<Moment>,
+    /// Its new moment.
     pub is: Option<Moment>,
 }
 
-// The addition of a key, if there is a moment, for a version that had none.
+/// Returns the addition of a key, if there is a moment, for a version that had none.
 pub fn new_key(file: FileId, number: VersionNo, moment: Option<Moment>) -> KeyChange
     ensures { result ≡ record { file = file; number = number; was = None; is = moment } }
 {
@@ -54,7 +61,9 @@ pub fn new_key(file: FileId, number: VersionNo, moment: Option<Moment>) -> KeyCh
     }
 }
 
-// Adds the change, if there is one and the two moments differ.
+/// Adds the change, if there is one and the two moments differ.
+///
+/// `NoMemory` if memory is refused.
 pub fn add_change(changes: &mut Vec<KeyChange>, change: Option<KeyChange>) -> Result<(), NoMemory>
     ensures { OnOk result (changes.new.items ≡ changes.old.items ++ if_changed change) }
 {
@@ -66,7 +75,9 @@ pub fn add_change(changes: &mut Vec<KeyChange>, change: Option<KeyChange>) -> Re
     Ok(())
 }
 
-// Adds all new keys, or none if memory is refused. None of them is in the queue.
+/// Adds all new keys, or none if memory is refused. None of them is in the queue.
+///
+/// `NoMemory` if memory is refused.
 pub fn put_changed(queue: &mut DueQueue, changes: &[KeyChange]) -> Result<(), NoMemory>
     ensures ok { OnOk result
         ((k : Key) → has_key k queue.new ≡ (comes changes.now k || has_key k queue.old)) }
@@ -82,7 +93,7 @@ pub fn put_changed(queue: &mut DueQueue, changes: &[KeyChange]) -> Result<(), No
     Ok(())
 }
 
-// Removes all new keys.
+/// Removes all new keys. It takes no memory.
 pub fn take_back(queue: &mut DueQueue, changes: &[KeyChange])
     ensures { (k : Key) → has_key k queue.new ≡ (not (comes changes.now k) && has_key k queue.old) }
 {
@@ -91,7 +102,7 @@ pub fn take_back(queue: &mut DueQueue, changes: &[KeyChange])
     }
 }
 
-// Removes all old keys.
+/// Removes all old keys. It takes no memory.
 pub fn remove_old_keys(queue: &mut DueQueue, changes: &[KeyChange])
     ensures { (k : Key) → has_key k queue.new ≡ (not (goes changes.now k) && has_key k queue.old) }
 {

@@ -1,8 +1,8 @@
 use Rattle.std.proofs.Common.{add-one}
-use Rattle.ele_state.proofs.Words.{◌≡◌, false, Some, arith, GroupRow}
+use Rattle.ele_fates.proofs.Words.{◌≡◌, false, Some, arith, GroupRow}
 use Rattle.ele_lists.proofs.Taken.{all-one_more, any-none_taken}
-use Rattle.ele_state.proofs.Fated.{is_marking, marked_first}
-use Rattle.ele_state.proofs.fate.first_mark.Goals as goal
+use Rattle.ele_fates.proofs.Marks.{is_marking, marked_first}
+use Rattle.ele_fates.proofs.marked.first_mark.Goals as goal
 
 pub returns-in-Some-clause-some : goal.returns-in-Some-clause-some
 returns-in-Some-clause-some c = marked_first c.args.groups.now c.loop-place.place c.args.file c.args.closed (Some c.args.ended) c.args.now _ _ c.loop-place.invariant c.in-Some.ensures.some

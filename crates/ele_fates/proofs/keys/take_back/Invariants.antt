@@ -1,5 +1,5 @@
-use Rattle.ele_state.proofs.Words.{◌≡◌, ◌&&◌, not, drop, Key, comes, has_key}
-use Rattle.ele_state.proofs.keys.take_back.Given as goal
+use Rattle.ele_fates.proofs.Words.{◌≡◌, ◌&&◌, not, drop, Key, comes, has_key}
+use Rattle.ele_fates.proofs.keys.take_back.Given as goal
 
 -- what is to be left is what the rest leaves
 abbrev pub invariant-loop-change : goal.invariant-loop-change

@@ -1,5 +1,5 @@
-use Rattle.ele_state.proofs.Words.{◌≡◌, ◌||◌, ◌&&◌, not, drop, Key, comes, has_key}
-use Rattle.ele_state.proofs.keys.put_changed.Given as goal
+use Rattle.ele_fates.proofs.Words.{◌≡◌, ◌||◌, ◌&&◌, not, drop, Key, comes, has_key}
+use Rattle.ele_fates.proofs.keys.put_changed.Given as goal
 
 -- what is to be there is what the rest brings, and what none of them is stays
 abbrev pub invariant-loop-change : goal.invariant-loop-change

@@ -1,4 +1,4 @@
--- The fate of a version that only its policy decides about. No public clause cites this module.
+-- The fate of a version by the marks of its groups, and by its policy alone.
 use Rattle.std.specs.Prelude.{◌≡◌, ℕ, nat_le, true, false, List, Option, Some, find, option_and_then, slice_get}
 use Rattle.std.specs.Option.{option_map_or}
 use Rattle.ele_policy.specs.Cause.{IsCause}

@@ -1,6 +1,6 @@
-use Rattle.ele_state.proofs.Words.{◌≡◌, None, Some, arith, has_member, nat_tests, sym, true, ◌∙◌}
-use Rattle.ele_state.proofs.OtherGroups.{longer_again, members_have}
-use Rattle.ele_state.proofs.mark.covers.Goals as goal
+use Rattle.ele_fates.proofs.Words.{◌≡◌, None, Some, arith, has_member, nat_tests, sym, true, ◌∙◌}
+use Rattle.ele_fates.proofs.OtherGroups.{longer_again, members_have}
+use Rattle.ele_fates.proofs.change.covers.Goals as goal
 
 pub returns-in-Unmarked-clause-was : goal.returns-in-Unmarked-clause-was
 returns-in-Unmarked-clause-was c =

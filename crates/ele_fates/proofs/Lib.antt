@@ -1,0 +1,4 @@
+mod Words
+mod Due
+mod Marks
+mod OtherGroups

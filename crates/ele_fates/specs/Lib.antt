@@ -1,0 +1,4 @@
+pub mod Alone
+pub mod Change
+pub mod Fate
+pub mod Keys
