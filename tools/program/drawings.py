@@ -1,4 +1,4 @@
-"""Draws forecasts as docs/FORECAST.md describes them, apart from the program, so that a tool can compare whole drawings.
+"""Draws forecasts as docs/POLICIES.md describes them, apart from the program, so that a tool can compare whole drawings.
 
 A drawing is an SVG document. Its moments stand from 150 to 896 pixels from the left, and its rows and strips from above to below.
 """
