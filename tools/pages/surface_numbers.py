@@ -48,8 +48,7 @@ NUMBERS = {
     "directories": [("docs/MOUNT.md", r"\| directories ever made \| ([\d,]+)")],
     "made names": [("docs/MOUNT.md", r"\| names ever given[^|]* \| ([\d,]+)")],
     "versions": [
-        ("README.md", r"at most ([\d,]+) versions"), ("docs/DECISIONS.md", r"A core makes at most ([\d,]+) versions"),
-        ("docs/FAQ.md", r"at most ([\d,]+) versions"),
+        ("README.md", r"at most ([\d,]+) versions"), ("docs/FAQ.md", r"at most ([\d,]+) versions"),
         ("docs/MOUNT.md", r"\| versions ever made[^|]* \| ([\d,]+) each"),
     ],
     "handles": [("docs/MOUNT.md", r"times that a file was opened to be changed \| ([\d,]+) each")],

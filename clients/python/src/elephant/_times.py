@@ -2,6 +2,9 @@
 
 A text without a zone is of the local zone. What people or programs understand in two ways is refused: `01/02/2026`, `yesterday` alone,
 a local time that the end of summer time doubles, and one that its beginning leaves out.
+
+This is a parser of its own, because those that there are guess. dateparser 1.1.6 and parsedatetime 2.6 were given sixteen texts that are
+traps: one took `01/02/2026` for 2 January, the other `2026-11-29 25:00` for 10:00. `read_time` has eight forms, and refuses the rest.
 """
 
 from __future__ import annotations
