@@ -4,15 +4,15 @@ from collections.abc import Iterator
 from typing import NamedTuple
 
 from gate.building import ROOT
-from pages import surface_calls, surface_docs, surface_header, surface_numbers, surface_python, surface_rust, surface_version
+from pages import surface_calls, surface_crates, surface_docs, surface_header, surface_numbers, surface_python, surface_rust, surface_version
 from pages.surface_facts import EXPORTS, SOURCES, facts_of
 from pages.surface_header import HEADER
 from pages.surface_regions import Tree
 
-PARTS = (surface_calls, surface_python, surface_rust, surface_docs)
+PARTS = (surface_calls, surface_python, surface_rust, surface_docs, surface_crates)
 PRINTED = [
     HEADER, surface_calls.SOURCE, *surface_python.PRINTED, *surface_rust.PRINTED, surface_docs.SCRIPT, surface_docs.ERRORS,
-    surface_docs.LIBRARY, *surface_docs.OF_EVENTS, *surface_version.PRINTED,
+    surface_docs.LIBRARY, *surface_docs.OF_EVENTS, surface_crates.PAGE, *surface_version.PRINTED,
 ]
 
 
@@ -31,7 +31,7 @@ class Outcome(NamedTuple):
 def read_tree() -> dict[str, str]:
     """Returns the files of this repository that have a part in the surface."""
     exports = sorted(str(it.relative_to(ROOT)) for it in (ROOT / EXPORTS).glob("*.rt"))
-    others = [*surface_version.SOURCES, surface_version.CHANGES, *surface_numbers.COMPARED]
+    others = [*surface_version.SOURCES, surface_version.CHANGES, *surface_numbers.COMPARED, *surface_crates.READMES]
     return {path: (ROOT / path).read_text(encoding="utf-8") for path in [*SOURCES, *exports, *PRINTED, *others]}
 
 
@@ -44,7 +44,7 @@ def outcome_of(tree: Tree) -> Outcome:
     for part in PARTS:
         printed.update(part.made(with_header, facts))
     whole = {**tree, **printed}
-    compared = (surface_header, surface_calls, surface_python, surface_docs, surface_numbers)
+    compared = (surface_header, surface_calls, surface_python, surface_docs, surface_crates, surface_numbers)
     complaints = [it for part in compared for it in part.complaints(whole, facts)]
     complaints += surface_version.complaints(whole)
     columns = sum(len(it) for it in facts.rows.values())

@@ -103,8 +103,7 @@ def script(tree: Tree, facts: Facts) -> str:
         table = commands(facts, region_in(SCRIPT, text, name), explains)
         text = with_region(SCRIPT, text, name, FROM_COMMANDS, table)
     sentence = match_in(ROWS_FOLLOW, text)
-    text = text.replace(sentence[0], f"After {followed(facts, sentence[1])}, K rows follow")
-    return with_region(SCRIPT, text, "the limits", FROM_LIMITS, limits(facts))
+    return text.replace(sentence[0], f"After {followed(facts, sentence[1])}, K rows follow")
 
 
 def followed(facts: Facts, told: str) -> str:
@@ -114,7 +113,7 @@ def followed(facts: Facts, told: str) -> str:
     return joined([*(it for it in found if it in wanted), *(it for it in wanted if it not in found)])
 
 
-# Errors.
+# Errors and limits.
 
 
 def errors(tree: Tree, facts: Facts) -> str:
@@ -122,7 +121,7 @@ def errors(tree: Tree, facts: Facts) -> str:
     for kind, name in TABLES.items():
         rows = [[str(it.number), it.name, it.meaning] for it in facts.of(kind)]
         text = with_region(ERRORS, text, name, FROM_ERRORS, table_of(["Number", "Name", "What it means, and what to do"], rows))
-    return text
+    return with_region(ERRORS, text, "the limits", FROM_LIMITS, limits(facts))
 
 
 def lists_of(facts: Facts) -> list[tuple[str, str]]:

@@ -3,8 +3,8 @@
 from typing import NamedTuple
 
 from pages import (
-    surface_calls as calls, surface_docs as docs, surface_facts as facts, surface_python as python, surface_rust as rust,
-    surface_version as version,
+    surface_calls as calls, surface_crates as crates, surface_docs as docs, surface_facts as facts, surface_python as python,
+    surface_rust as rust, surface_version as version,
 )
 from pages.surface_checks import findings
 from pages.surface_header import HEADER
@@ -65,10 +65,12 @@ OF_FILES = [
     Planted(docs.SCRIPT, "| `rmdir P` | `ok done` |", "| `rmdir P` | `ok gone` |", (docs.SCRIPT,)),
     Planted(docs.SCRIPT, "NoGroup; NotPast; NotAhead; MarkExists", "NoGroup; NotAhead; NotPast; MarkExists", ("`mark`",)),
     Planted(docs.SCRIPT, "| `unmark G M` | `ok done` | NoGroup; NoMark |\n", "", (docs.SCRIPT, "`unmark`")),
-    Planted(docs.SCRIPT, "| marks ever made | 10,000 |", "| marks ever made | 10,001 |", (docs.SCRIPT,)),
+    Planted(docs.ERRORS, "| marks ever made | 10,000 |", "| marks ever made | 10,001 |", (docs.ERRORS,)),
     Planted(docs.SCRIPT, "`ok usage K`, `ok groups K`", "`ok usage K`", (docs.SCRIPT,)),
     Planted(docs.ERRORS, "| 11 | IsRoot |", "| 12 | IsRoot |", (docs.ERRORS,)),
     Planted(docs.ERRORS, "End of the stops.", "End.", ("no region of the stops",)),
+    Planted(crates.PAGE, "| [ele_lists](../crates/ele_lists/README.md) |", "| ele_lists |", ("its tables have ele_lists 0 times",)),
+    Planted("crates/ele_path/README.md", "Paths, paths with a tag (a moment", "Trails, with a tag (a moment", (crates.PAGE,)),
     Planted(python.ANSWERS, "    marks: int = 10_000", "    marks: int = 10_001", (python.ANSWERS,)),
     Planted(python.ANSWERS, "    members: int = 100_000\n    marks: int = 10_000", "    marks: int = 10_000", (python.ANSWERS,)),
     Planted(rust.VALUES, "    /// Marks: at most 10,000.", "    /// Marks: at most 10,001.", (rust.VALUES,)),
@@ -109,13 +111,13 @@ OF_SOURCES = [
     Planted(facts.ERRORS, "the root can't be made,", "the root can't be lost,", (HEADER, python.ERRORS, rust.ERRORS, docs.ERRORS)),
     Planted(facts.ERRORS, "the root can't be made, moved", "the root can't be moved", (docs.ERRORS,)),
     Planted(facts.ERRORS, "Refusal::IsRoot =>", "Refusal::Root =>", ("doesn't say what 11 IsRoot means",)),
-    Planted(facts.LINE_FAULT, "LineFault::BadPath => 29", "LineFault::BadPath => 43", (HEADER, docs.ERRORS, docs.SCRIPT, facts.HELP_PAGES)),
+    Planted(facts.LINE_FAULT, "LineFault::BadPath => 29", "LineFault::BadPath => 43", (HEADER, docs.ERRORS, facts.HELP_PAGES)),
     Planted(facts.SHELL_FAULT, "ShellFault::ReadFault => 34", "ShellFault::ReadFault => 44", (docs.ERRORS,)),
     Planted(facts.STORM_FAULT, "AuditFault::TurnHeld => 38", "AuditFault::TurnHeld => 45", (docs.ERRORS,)),
     Planted(facts.CODES, "pub const NO_ROOM: i32 = 70;", "pub const NO_ROOM: i32 = 72;", (HEADER,)),
     Planted(facts.CODES, "Which::Marks => 8,", "Which::Marks => 9,", (HEADER, rust.SYS)),
     Planted(facts.CODES, "Refusal::Full(which) => Some", "Refusal::TooBig(which) => Some", (HEADER,)),
-    Planted(facts.LIMITS, "        marks: 10_000,", "        marks: 20_000,", (docs.SCRIPT, HEADER, python.ANSWERS, rust.VALUES, "help")),
+    Planted(facts.LIMITS, "        marks: 10_000,", "        marks: 20_000,", (docs.ERRORS, HEADER, python.ANSWERS, rust.VALUES, "help")),
     Planted(facts.HELP_PAGES, "1,048,576      no 17 TooBig", "1,048,577      no 17 TooBig", (facts.HELP_PAGES,)),
     Planted(facts.STATS, "length, policy, seconds,", "length, size, policy, seconds,", (HEADER, rust.SYS, python.LIBRARY, calls.SOURCE)),
     Planted(facts.KEPT, "`elephant_key`: since, file,", "`elephant_key`: file, since,", (HEADER, rust.SYS)),
@@ -136,7 +138,7 @@ OF_SOURCES = [
     Planted(facts.ASKS, "asks (Stat tagged) = true\n", "", (python.REPLAY, python.CONTROL)),
     Planted(facts.ASKS, "asks (Stat tagged) = true\n", "asks (Unlink path) = true\n", ("that `unlink` only asks", "that `stat` changes")),
     Planted(facts.STEP, "(Unless (nat_le w.limits.marks w.made.marks) (Full which.Marks)", "(id", ("`mark` makes marks",)),
-    Planted(facts.CHANGE, COUNTED, "", (python.COUNTS, docs.SCRIPT)),
+    Planted(facts.CHANGE, COUNTED, "", (python.COUNTS, docs.ERRORS)),
     Planted(facts.STEP, "Unless (list_any (is_live_in directory) w.names) NotEmpty", "Unless false Exists", ("`rmdir`",)),
     Planted(facts.STEP, "(Unless (nat_le w.limits.files w.made.files) (Full which.Files)", "(id", ("`create`",)),
     Planted(f"{facts.EXPORTS}/answers.rt", "    kind: u32,\n    index: u64,\n    inner", "    index: u64,\n    inner", (calls.SOURCE,)),
