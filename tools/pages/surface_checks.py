@@ -4,15 +4,18 @@ from collections.abc import Iterator
 from typing import NamedTuple
 
 from gate.building import ROOT
-from pages import surface_calls, surface_crates, surface_docs, surface_header, surface_numbers, surface_python, surface_rust, surface_version
+from pages import (
+    surface_calls, surface_crates, surface_docs, surface_header, surface_numbers, surface_python, surface_rows, surface_rust,
+    surface_version,
+)
 from pages.surface_facts import EXPORTS, SOURCES, facts_of
 from pages.surface_header import HEADER
 from pages.surface_regions import Tree
 
-PARTS = (surface_calls, surface_python, surface_rust, surface_docs, surface_crates)
+PARTS = (surface_calls, surface_python, surface_rust, surface_docs, surface_crates, surface_rows)
 PRINTED = [
     HEADER, surface_calls.SOURCE, *surface_python.PRINTED, *surface_rust.PRINTED, surface_docs.SCRIPT, surface_docs.ERRORS,
-    surface_docs.LIBRARY, *surface_docs.OF_EVENTS, surface_crates.PAGE, *surface_version.PRINTED,
+    surface_docs.LIBRARY, *surface_docs.OF_EVENTS, surface_crates.PAGE, surface_rows.PAGE, *surface_version.PRINTED,
 ]
 
 

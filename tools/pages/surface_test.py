@@ -70,6 +70,7 @@ OF_FILES = [
     Planted(docs.ERRORS, "| 11 | IsRoot |", "| 12 | IsRoot |", (docs.ERRORS,)),
     Planted(docs.ERRORS, "End of the stops.", "End.", ("no region of the stops",)),
     Planted(crates.PAGE, "| [ele_lists](../crates/ele_lists/README.md) |", "| ele_lists |", ("its tables have ele_lists 0 times",)),
+    Planted(python.ANSWERS, "class Waiting(NamedTuple):", "class Kept_Back(NamedTuple):", ("docs/EMBED.md",)),
     Planted("crates/ele_path/README.md", "Paths, paths with a tag (a moment", "Trails, with a tag (a moment", (crates.PAGE,)),
     Planted(python.ANSWERS, "    marks: int = 10_000", "    marks: int = 10_001", (python.ANSWERS,)),
     Planted(python.ANSWERS, "    members: int = 100_000\n    marks: int = 10_000", "    marks: int = 10_000", (python.ANSWERS,)),

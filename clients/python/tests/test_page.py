@@ -1,4 +1,4 @@
-"""docs/EMBED.md has each call and each field of each language."""
+"""docs/EMBED.md has each call of each language, and each field of the package's rows."""
 
 import re
 import unittest
@@ -32,18 +32,9 @@ def words(cell: str, before: set[str]) -> set[str]:
     return found | before if cell.startswith("the same") else found
 
 
-def fields() -> dict[str, tuple[set[str], set[str], set[str]]]:
-    """Returns the words of C, Python and Rust in the rows of each type."""
-    found: dict[str, tuple[set[str], set[str], set[str]]] = {}
-    types: list[str] = []
-    for row, in_c, in_python, in_rust, _ in rows_of("All fields"):
-        types = CODE.findall(row) or types
-        c = words(in_c, set())
-        python = words(in_python, c)
-        for name in types:
-            for all_words, more in zip(found.setdefault(name, (set(), set(), set())), (c, python, words(in_rust, python))):
-                all_words |= more
-    return found
+def fields() -> dict[str, set[str]]:
+    """Returns the fields of each row of the package."""
+    return {CODE.findall(row)[0]: words(listed, set()) for row, listed, _ in rows_of("All fields")}
 
 
 @unittest.skipUnless(PAGE.is_file() and HEADER.is_file(), "there is no docs/EMBED.md")
@@ -54,28 +45,7 @@ class Page(unittest.TestCase):
         kinds = {name: found for name, found in kinds.items() if found and name not in ("DeadName", "Time")}
         self.assertGreater(len(kinds), 18)
         for name, listed in kinds.items():
-            self.assertEqual(set(listed) - table.get(name, (set(), set(), set()))[1], set(), name)
-
-    def test_fields_of_c(self) -> None:
-        text = re.sub(r"/\*.*?\*/", "", HEADER.read_text(encoding="utf-8"), flags=re.S)
-        structs = re.findall(r"typedef struct \w+ \{(.*?)\} (elephant_\w+);", text, re.S)
-        self.assertEqual(len(structs), 9)
-        table = fields()
-        for body, name in structs:
-            self.assertEqual(set(re.findall(r"\w+", body)) - {"uint64_t"} - table[name][0], set(), name)
-
-    @unittest.skipUnless(CRATE.is_dir(), "there is no Rust crate")
-    def test_fields_of_rust(self) -> None:
-        text = "".join((CRATE / f"{it}.rs").read_text(encoding="utf-8") for it in ("types", "audit"))
-        structs = re.findall(r"^pub struct (\w+) \{\n(.*?)^\}", text, re.M | re.S)
-        self.assertGreater(len(structs), 15)
-        table = fields()
-        for name, body in structs:
-            listed = set(re.findall(r"^    pub (\w+):", body, re.M))
-            if name == "Rung":  # a part of a policy
-                self.assertEqual(listed - words(rung_row(), set()), set())
-            else:
-                self.assertEqual(listed - table[name][2], set(), name)
+            self.assertEqual(set(listed), table.get(name), name)
 
     @unittest.skipUnless(CRATE.is_dir(), "there is no Rust crate")
     def test_calls(self) -> None:
@@ -93,10 +63,6 @@ class Page(unittest.TestCase):
         methods = {name for body in bodies for name in re.findall(r"^    pub fn (\w+)", body, re.M)}
         self.assertGreater(len(methods), 40)
         self.assertEqual(methods - in_rust, set())
-
-
-def rung_row() -> str:
-    return next(row[4] for row in rows_of("All fields") if "`Rung`" in row[4])
 
 
 if __name__ == "__main__":
