@@ -1,7 +1,8 @@
 """The guard before a removal: what became due while nobody could see it, or all at once, waits until it was announced for a day.
 
 It knows no store: it gets what is due and two clocks, and says what may be removed, and what is to be announced. A remark in the journal
-keeps what was announced, so that a day may have many openings:
+keeps what was announced, so that a day may have many openings, as of a laptop that runs an hour a day. The package waits as the mount
+does, because a program that opens its store while the date is a month ahead sees no jump:
 
     # due 1796031481 12:1-5,7 13:2        at that moment versions 1 to 5 and 7 of file 12, and 2 of file 13, were announced for a day
     # found 1796031481 12:8               that version was found due by an opening of a program, and may go ten minutes later

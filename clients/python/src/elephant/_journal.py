@@ -2,7 +2,10 @@
 
 Each line is a checksum, a mark and a line of the script language. The marks group lines into changes, and each change is stored whole
 or not at all: `=` is a change of one line, `<`, `-` and `>` are the first, a middle and the last line of a longer one. A checksum covers
-all lines up to its own, so it detects a line that was changed, left out, doubled or moved.
+all lines up to its own, so it detects a line that was changed, left out, doubled or moved. Only a part of a change is a torn end;
+anything else is damage, because to cut it off in silence could lose whole journals.
+
+Reads after a failure are answered from the journal, since a change that the journal lacks can't be taken out of the core.
 """
 
 from __future__ import annotations

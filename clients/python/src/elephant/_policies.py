@@ -144,4 +144,5 @@ class Landmarks(Policy):
 _DAY = 86_400
 LADDER = Landmarks([(7 * _DAY, 3_600), (30 * _DAY, _DAY), (365 * _DAY, 7 * _DAY)])
 """The policy with which a new journal begins: all versions for a week, then the newest of each hour, after 30 days of each day, and after
-a year of each week. The last version of a deleted file stays for good."""
+a year of each week. The last version of a deleted file stays for good. It is a week, since the last save of a Friday hour may be the
+mistake. It is a line of the journal, so a journal means the same in every version of the package."""

@@ -1,5 +1,10 @@
 """Compares two stores whole, before the journal of one replaces that of the other: what they hold and how, now and in the past.
 
+Compared are all names, also deleted ones, and what each led to before and after each of its changes; the contents of all versions that
+can be read or restored; the next numbers, the counts, policies, groups, marks and open sessions. From each journal it reckons which
+version wrote each block of each version and of each open file, and `usage` must count as many. Modes, owners, times and extended
+attributes are compared for all that the new store has attributes of: it leaves out those of files without a version.
+
 Both are changed by it: at its end it restores what can be restored, and makes something of each kind, to see that both get the same.
 """
 

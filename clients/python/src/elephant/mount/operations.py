@@ -41,6 +41,7 @@ class Operations(Answering):
     """The requests of the kernel."""
 
     supports_dot_lookup = False
+    # With one the kernel would report a write beyond 1 MiB only at the close.
     enable_writeback_cache = False
 
     def __init__(self, store: MountStore, tree: Tree, contents: Contents, naming: Naming, past: Past, log: Log) -> None:

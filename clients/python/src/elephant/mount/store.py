@@ -1,4 +1,8 @@
-"""The store of a mount: its journal also stores attributes, a part of its limits is kept back, and what ended is remembered."""
+"""The store of a mount: its journal also stores attributes, a part of its limits is kept back, and what ended is remembered.
+
+Attributes are remarks in the journal, so one checksum and one lock cover both. A change that fails midway is taken back by opposite
+commands, since the core has no transactions.
+"""
 
 from __future__ import annotations
 
