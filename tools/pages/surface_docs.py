@@ -5,13 +5,14 @@ from collections.abc import Iterator
 
 from gate.building import match_in
 from pages import surface_words as words
-from pages.surface_facts import ASKS, ERRORS as HELP_ERRORS, HELP_PAGES, STEP, Command, Facts
+from pages.surface_facts import ASKS, COMMAND, ERRORS as HELP_ERRORS, HELP_PAGES, PARAGRAPHS, STEP, Command, Facts, paragraphs_in
 from pages.surface_regions import Tree, joined, region_in, with_region
 
 SCRIPT, ERRORS, LIBRARY = (f"docs/{it}.md" for it in ("SCRIPT", "ERRORS", "LIBRARY"))
 FROM_COMMANDS = "ROWS and HELP of ele_commands/src/command.rt; the last column is kept by hand"
 FROM_LIMITS = "ele_model/src/limits.rt and the limits of lines, runs, names and contents"
 FROM_ERRORS = "ele_help/src/errors.rt"
+FROM_PARAGRAPHS = "ele_help/src/paragraphs.rt"
 # Pages that say how many events there are.
 OF_EVENTS = ("crates/ele_core/README.md", "docs/PROMISES.md")
 # The tables of docs/ERRORS.md, each with the kind of its numbers.
@@ -64,6 +65,19 @@ def commands(facts: Facts, table: str, explains: bool) -> str:
     return table_of(["Line", "Answer", "Refusals, in this order"], cells)
 
 
+def paragraphs(tree: Tree, table: str) -> str:
+    """Returns what the help says of each command of a table, as a list in the table's order."""
+    told = {name: what_of(text) for name, text in paragraphs_in(tree[COMMAND], tree[PARAGRAPHS])}
+    names = dict.fromkeys(match_in(r"[a-z]+(?: [a-z]+)?", form)[0] for form in rows_in(table))
+    return "".join(f"- **`{name}`**: {told[name]}\n" for name in names)
+
+
+def what_of(text: str) -> str:
+    """Returns a paragraph of the help without its example, with words in quotation marks and options as code."""
+    plain = " ".join(text.partition("\nExample:")[0].split())
+    return re.sub(r"(?<!\w)'([^']+)'(?!\w)|(?<!\S)(--\w+)", lambda it: f"`{it[1] or it[2]}`", plain)
+
+
 def table_of(head: list[str], rows: list[list[str]]) -> str:
     lines = [head, *rows]
     text = [f"|{'|'.join(f' {it} ' if it else ' ' for it in line)}|\n" for line in lines]
@@ -102,6 +116,7 @@ def script(tree: Tree, facts: Facts) -> str:
     for name, explains in (("the commands", False), ("the questions", True)):
         table = commands(facts, region_in(SCRIPT, text, name), explains)
         text = with_region(SCRIPT, text, name, FROM_COMMANDS, table)
+        text = with_region(SCRIPT, text, f"what {name} do", FROM_PARAGRAPHS, paragraphs(tree, table))
     sentence = match_in(ROWS_FOLLOW, text)
     return text.replace(sentence[0], f"After {followed(facts, sentence[1])}, K rows follow")
 

@@ -136,6 +136,7 @@ OF_SOURCES = [
     Planted(facts.COMMAND, '(Topic::History, "ok trimmed K")', '(Topic::Cleaning, "ok trimmed K")', (python.REPLAY, python.CONTROL)),
     Planted(facts.COMMAND, '"ok trimmed K"', '"ok folded K, then K lines - N"', (docs.SCRIPT,)),
     Planted(facts.HELP_SCRIPT, 'WordKind::Name => "G"', 'WordKind::Name => "W"', (docs.SCRIPT,)),
+    Planted(facts.PARAGRAPHS, "Makes an empty group.", "Makes a group.", (docs.SCRIPT,)),
     Planted(facts.ASKS, "asks (Stat tagged) = true\n", "", (python.REPLAY, python.CONTROL)),
     Planted(facts.ASKS, "asks (Stat tagged) = true\n", "asks (Unlink path) = true\n", ("that `unlink` only asks", "that `stat` changes")),
     Planted(facts.STEP, "(Unless (nat_le w.limits.marks w.made.marks) (Full which.Marks)", "(id", ("`mark` makes marks",)),
