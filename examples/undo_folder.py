@@ -44,7 +44,7 @@ def kept(store: Store, directory: str = "") -> list[str]:
 
 
 def held(store: Store, path: str) -> bytes | None:
-    """Returns what the store has at a path, and restores its name if it is dead. None if there never was one."""
+    """Returns what the store has at a path, and restores its name if it is deleted. None if there never was one."""
     for parent in list(Path(path).parents)[-2::-1]:
         with suppress(Exists):
             store.mkdir(parent)

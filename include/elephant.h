@@ -241,7 +241,7 @@ int32_t elephant_unlink(elephant *e, const void *path, size_t len);
  * `from` if that is "/", else about `to`, and the others as those of elephant_link. */
 int32_t elephant_rename(elephant *e, const void *from, size_t from_len, const void *to, size_t to_len);
 
-/* Restores a dead name. A file without a live name gets a version: its number at *version, else 0. NOT_RESTORABLE, EXISTS,
+/* Restores a deleted name. A file without a live name gets a version: its number at *version, else 0. NOT_RESTORABLE, EXISTS,
  * DRAFTING, FULL. */
 int32_t elephant_undelete(elephant *e, const void *path, size_t len, uint64_t *version);
 
@@ -361,7 +361,7 @@ int32_t elephant_row_version(const elephant *e, uint64_t index, elephant_version
  * SYNTAX. */
 int32_t elephant_list(elephant *e, const void *path, size_t len, uint32_t tag, uint64_t number, uint64_t *rows);
 
-/* Lists the dead names that elephant_undelete can restore, by directory and name. */
+/* Lists the deleted names that elephant_undelete can restore, by directory and name. */
 int32_t elephant_restorable(elephant *e, uint64_t *rows);
 
 typedef struct elephant_name_row {

@@ -89,11 +89,11 @@ class Counts:
             return self.lacking(**dict.fromkeys(_OF_REMOVALS, self._owed + 1))
 
     def note_removal(self) -> None:
-        """Notes that a name was removed. In a full store its undo is owed."""
+        """Notes that a name was deleted. In a full store its undo is owed."""
         self._owed += not all(self.left(name) for name in _OF_REMOVALS)
 
     def note_return(self) -> None:
-        """Notes that a removed name came back, so that one undo less is owed."""
+        """Notes that a deleted name came back, so that one undo less is owed."""
         self._owed -= bool(self._owed)
 
     # How near the end is.

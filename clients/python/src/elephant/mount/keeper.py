@@ -104,7 +104,7 @@ class Keeper:
                 # Files that were closed meanwhile.
                 faults = self.operations.contents.settle_all(is_every=False)
             elif not self.store.stopped:
-                # Files whose close was refused for want of memory.
+                # Files whose close was refused, since there was no memory.
                 faults = self.operations.contents.settle_all(is_every=False)
             changes, self.operations.untold = self.operations.untold, []
         self._changed(changes)
