@@ -260,7 +260,7 @@ int32_t elephant_truncate(elephant *e, uint64_t handle, uint64_t size);
 /* Closes a handle, for writing or reading. *version: the number of the version that the close made, or 0. NO_HANDLE. */
 int32_t elephant_close_handle(elephant *e, uint64_t handle, uint64_t *version);
 
-/* Ends a handle for writing. If it was the last one that writes the file, the draft is removed and makes no version.
+/* Ends a handle for writing. If it was the last one that writes the file, the draft vanishes and makes no version.
  * NO_HANDLE, NOT_WRITER. */
 int32_t elephant_abandon(elephant *e, uint64_t handle);
 
