@@ -34,7 +34,7 @@ class Outcome(NamedTuple):
 def read_tree() -> dict[str, str]:
     """Returns the files of this repository that have a part in the surface."""
     exports = sorted(str(it.relative_to(ROOT)) for it in (ROOT / EXPORTS).glob("*.rt"))
-    others = [*surface_version.SOURCES, surface_version.CHANGES, *surface_numbers.COMPARED, *surface_crates.READMES]
+    others = [*surface_version.SOURCES, surface_version.CHANGES, *surface_numbers.COMPARED, *surface_crates.READMES, *surface_rows.SOURCES]
     return {path: (ROOT / path).read_text(encoding="utf-8") for path in [*SOURCES, *exports, *PRINTED, *others]}
 
 

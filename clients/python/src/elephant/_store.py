@@ -125,7 +125,7 @@ class Store(Forgetting):
             return self._make_directory(path, name)
 
     def rmdir(self, path: Path) -> None:
-        """Removes the name of a directory that has no names."""
+        """Deletes the name of a directory that has no names."""
         name = spell(path)
         with self._lock, self._change as core:
             core.do(core.library.elephant_rmdir, path, name, len(name))
@@ -156,7 +156,7 @@ class Store(Forgetting):
             self._keep(b"link %b %b" % (name, other))
 
     def unlink(self, path: Path) -> None:
-        """Removes a name of a file. With its last name its current version ends."""
+        """Deletes a name of a file. With its last name its current version ends."""
         name = spell(path)
         with self._lock, self._change as core:
             self._note_end(core, name)
