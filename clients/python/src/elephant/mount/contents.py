@@ -1,8 +1,8 @@
 """The contents of files: drafts in memory, and how they become versions.
 
 What a program writes stays in the draft of its file, in memory. When a descriptor of the file is closed or synced, the journal gets the
-part of the draft that it lacks. When the last descriptor that writes is closed, the draft becomes a version. So a write costs a slice, and a kill during a save leaves the old
-content.
+part of the draft that it lacks. When the last descriptor that writes is closed, the draft becomes a version. So a write costs a slice,
+and a kill during a save leaves the old content.
 
 A save becomes a version before the next one begins, because a child that was forked during the save may keep the descriptor, and the
 draft of an answered `close` must not be overwritten. A version at each `flush` would be one for each command of `{ a; b; } > f`, and one
