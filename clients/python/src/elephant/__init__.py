@@ -39,6 +39,8 @@ from ._answers import (
     Removable,
     Removal,
     Removed,
+    RestoredTree,
+    TreeStep,
     Usage,
     Version,
     Waiting,
@@ -114,7 +116,7 @@ __all__ = [
     "JournalLocked", "JournalLost", "KeepAll", "KeepOne", "KeepSafe", "Kept", "Landmarks", "Limits", "Mark", "Marked", "MarkExists",
     "MassRemoval", "Moment", "NoEntry", "NoGroup", "NoHandle", "NoHistory", "NoMark", "NoMemory", "NotAhead", "NotDirectory", "NotEmpty",
     "NotMember", "NotPast", "NotRestorable", "NotWriter", "NoVersion", "Open", "OpenHandle", "Pass", "PathEntry", "Policy", "read_time",
-    "Reader", "ReadOnly", "Recovered", "Refused", "Removable", "Removal", "RemovalWaits", "Removed", "Session", "Stop", "Store", "Syntax",
-    "TextFile", "Time", "TooBig", "UnknownAnswer", "Untold", "Usage", "Version", "Waiting",
+    "Reader", "ReadOnly", "Recovered", "Refused", "Removable", "Removal", "RemovalWaits", "Removed", "RestoredTree", "Session", "Stop",
+    "Store", "Syntax", "TextFile", "Time", "TooBig", "TreeStep", "UnknownAnswer", "Untold", "Usage", "Version", "Waiting",
 ]
 # End of all names.

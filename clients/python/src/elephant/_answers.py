@@ -150,6 +150,30 @@ class Pass(NamedTuple):
     finished: bool
 
 
+class TreeStep(NamedTuple):
+    """A step of `Store.restore_tree`: `mkdir` or `undelete` of a directory, or `restore` of a file.
+
+    `is_missing`: whether the path named nothing before. `version` is the one that a restore made (None: it was only asked what would be
+    done, or the path is a directory's).
+    """
+
+    word: str
+    path: str
+    is_missing: bool
+    version: Optional[int]
+
+
+class RestoredTree(NamedTuple):
+    """What `Store.restore_tree` did, or would do: its steps, how many files hold what they held then, what is left as it is, each path with
+    the reason, and the names that weren't there then and stay."""
+
+    moment: Moment
+    steps: tuple[TreeStep, ...]
+    same: int
+    left: tuple[tuple[str, str], ...]
+    newer: tuple[str, ...]
+
+
 class Waiting(NamedTuple):
     """How many due versions a store's guard keeps for now, and the moment until which the first of them waits."""
 

@@ -12,15 +12,15 @@ from ._core import Core, natural
 from ._drafts import UNKNOWN
 from ._dump import dump
 from ._errors import BadName, ClockDoubt, ElephantError, Refused, Untold
-from ._forgetting import Forgetting
 from ._moments import NEVER, Moment, MomentLike
 from ._names import Path, is_path_shown, require_shown, spell, spell_name
 from ._policies import Policy
 from ._replay import QUESTIONS
+from ._trees import Trees
 from ._turns import Clock, Fsync, Opening
 
 
-class Store(Forgetting):
+class Store(Trees):
     """A store of files that keep their earlier versions.
 
     `journal`: the path of the file that stores it; without one the store ends with this object. `limits`: how many of each kind it may
