@@ -1,5 +1,6 @@
-"""Completions of the program and of the mount for bash, zsh and fish, from the help that both print."""
+"""Completions of the program, the mount and the page for bash, zsh and fish, from the help that each prints."""
 
+import importlib
 import re
 import sys
 from collections.abc import Iterator
@@ -63,12 +64,21 @@ def of_program() -> Words:
 
 def of_mount() -> Words:
     """Returns the words of `elephant-mount`, from the reader of its arguments."""
+    return of_command("elephant.mount.main")
+
+
+def of_browse() -> Words:
+    """Returns the words of `elephant-browse`."""
+    return of_command("elephant.browse.main")
+
+
+def of_command(module: str) -> Words:
     sys.path.insert(0, str(PACKAGE))
     try:
-        from elephant.mount.main import _parser
+        parser = importlib.import_module(module)._parser()
     finally:
         sys.path.remove(str(PACKAGE))
-    actions = [it for it in _parser()._actions if it.option_strings]
+    actions = [it for it in parser._actions if it.option_strings]
     return Words([Option(list(it.option_strings), it.nargs != 0, first_of(it.help or "")) for it in actions], {}, {}, True)
 
 

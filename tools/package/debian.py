@@ -1,4 +1,4 @@
-"""The Debian package: the program, the library, the Python package with the mount, manual pages, completions and documents."""
+"""The Debian package: the program, the library, the Python package with its commands, manual pages, completions and documents."""
 
 import datetime
 import gzip
@@ -20,10 +20,10 @@ LIBDIR = "lib/x86_64-linux-gnu"
 PYTHON, DOCUMENTS = "lib/python3/dist-packages", "share/doc/elephant"
 # The revision of the packaging.
 REVISION = 1
-MOUNT = """#!/usr/bin/python3
+COMMAND = """#!/usr/bin/python3
 import sys
 
-from elephant.mount.main import main
+from elephant.{}.main import main
 
 sys.exit(main())
 """
@@ -85,10 +85,12 @@ def laid_out(wheel: Path) -> Laid:
     """Returns all files of the package, by their paths below /usr."""
     laid = contents.program_and_library(Path("/usr"), LIBDIR, is_site=False)
     laid.update(of_python(wheel))
-    laid.update(contents.with_completions("elephant-mount", completions.of_mount(), is_site=False))
     laid.update(documents())
-    laid["bin/elephant-mount"] = text(MOUNT, 0o755)
-    laid["share/man/man1/elephant-mount.1"] = text(manual.of_mount())
+    commands = ("mount", completions.of_mount(), manual.of_mount()), ("browse", completions.of_browse(), manual.of_browse())
+    for name, words, described in commands:
+        laid.update(contents.with_completions(f"elephant-{name}", words, is_site=False))
+        laid[f"bin/elephant-{name}"] = text(COMMAND.format(name), 0o755)
+        laid[f"share/man/man1/elephant-{name}.1"] = text(described)
     laid["share/lintian/overrides/elephant"] = LaidFile(0o644, (PACKAGING / "lintian-overrides").read_bytes())
     laid["lib/systemd/user/elephant-mount@.service"] = LaidFile(0o644, (PACKAGING / "elephant-mount@.service").read_bytes())
     pages = [(path, it) for path, it in laid.items() if path.startswith("share/man/") and isinstance(it, LaidFile)]

@@ -1,13 +1,15 @@
-"""The manual pages that tools/pages/man_page doesn't make: of the mount, from docs/MOUNT.md, and of the library, from its header."""
+"""The manual pages that tools/pages/man_page doesn't make: of the mount and the page, from docs/MOUNT.md and docs/BROWSE.md, and of the
+library, from its header."""
 
 import re
 from collections.abc import Iterator
+from pathlib import Path
 
 from gate import building, libraries
 from gate.building import ROOT
 from package import completions
 
-PAGE = ROOT / "docs" / "MOUNT.md"
+PAGE, BROWSE = ROOT / "docs" / "MOUNT.md", ROOT / "docs" / "BROWSE.md"
 # Fenced blocks, indented blocks, tables, list items, headings and paragraphs.
 PIECES = re.compile(
     r"^```[^\n]*\n(.*?)^```$|((?:^    [^\n]*\n|^\n(?=    ))+)|((?:^\|[^\n]*\n)+)|^- ([^\n]*)\n|^(#+) ([^\n]*)\n"
@@ -70,18 +72,34 @@ def head(name: str, section: int, what: str) -> str:
 
 def of_mount() -> str:
     """Returns the page of `elephant-mount`."""
-    words = completions.of_mount()
-    _, *sections = re.split(r"(?m)^(?=## )", PAGE.read_text(encoding="utf-8"))
-    chosen = [it for it in sections if not it.startswith(("## Five minutes", "## Options", "## What is proved", "## What it costs"))]
-    options = "".join(
-        f".TP\n.B {escaped(', '.join(it.words))}{' VALUE' if it.takes_value else ''}\n{escaped(it.about)}.\n" for it in words.options
-    )
+    left_out = "## Five minutes", "## Options", "## What is proved", "## What it costs"
     return "".join([
         head("elephant-mount", 1, "a folder in which every save of a file is kept as a version"),
         ".SH SYNOPSIS\n.nf\n.B elephant\\-mount FOLDER \\-\\-journal FILE [OPTIONS]\n.B elephant\\-mount \\-\\-at FOLDER LINE\n",
-        ".B elephant\\-mount move OLD NEW\n.fi\n.SH OPTIONS\n", options, *(piece for it in chosen for piece in from_markdown(it)),
-        ".SH SEE ALSO\n.BR elephant (1),\n.BR elephant (3)\n",
+        ".B elephant\\-mount move OLD NEW\n.fi\n", *described(completions.of_mount(), PAGE, left_out),
+        ".SH SEE ALSO\n.BR elephant (1),\n.BR elephant\\-browse (1),\n.BR elephant (3)\n",
     ])
+
+
+def of_browse() -> str:
+    """Returns the page of `elephant-browse`."""
+    return "".join([
+        head("elephant-browse", 1, "the past of files in a browser"),
+        ".SH SYNOPSIS\n.nf\n.B elephant\\-browse JOURNAL [OPTIONS]\n.B elephant\\-browse \\-\\-at FOLDER [OPTIONS]\n.fi\n",
+        *described(completions.of_browse(), BROWSE, ("## Options", "## What it costs")),
+        ".SH SEE ALSO\n.BR elephant (1),\n.BR elephant\\-mount (1)\n",
+    ])
+
+
+def described(words: completions.Words, page: Path, left_out: tuple[str, ...]) -> Iterator[str]:
+    """Yields the options of a command, and the sections of its page but for some."""
+    yield ".SH OPTIONS\n"
+    for it in words.options:
+        yield f".TP\n.B {escaped(', '.join(it.words))}{' VALUE' if it.takes_value else ''}\n{escaped(it.about)}.\n"
+    _, *sections = re.split(r"(?m)^(?=## )", page.read_text(encoding="utf-8"))
+    for section in sections:
+        if not section.startswith(left_out):
+            yield from from_markdown(section)
 
 
 def of_library() -> str:

@@ -120,7 +120,8 @@ def uses_program(root: Root) -> str:
     """Runs the first script, and asks for the version."""
     given, wanted = ((ROOT / "crates" / NAME / it).read_text(encoding="utf-8") for it in ("stdin", "stdout"))
     expect(root.shell("elephant run", given=given), wanted, "the answers of the first script")
-    for command, product in (("elephant", building.BUILT_PROGRAM), ("elephant-mount", libraries.BUILT_LIBRARY)):
+    library = libraries.BUILT_LIBRARY
+    for command, product in (("elephant", building.BUILT_PROGRAM), ("elephant-mount", library), ("elephant-browse", library)):
         expect(root.shell(f"{command} --version"), contents.said_version(command, product), f"{command} --version")
     return "the first script is answered"
 

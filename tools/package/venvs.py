@@ -9,6 +9,7 @@ from collections.abc import Iterator
 from pathlib import Path
 
 from gate import building, libraries
+from gate.building import ROOT
 from package import contents
 from package.trying import Lacking, Wrong, clean_environment, expect, outcome, run
 
@@ -65,8 +66,14 @@ def works_in(python: str, wheel: Path, folder: Path) -> None:
     expect(printed[:1], [f"{building.version()} b'two' b'one'"], f"what a program under {python} prints")
     if not printed[1].startswith(str(folder)):
         raise Wrong(f"under {python} the library is {printed[1]}, and not that of the wheel")
-    wanted = contents.said_version("elephant-mount", libraries.BUILT_LIBRARY)
-    expect(run([bin_folder / "elephant-mount", "--version"]), wanted, "elephant-mount --version")
+    for command in ("elephant-mount", "elephant-browse"):
+        wanted = contents.said_version(command, libraries.BUILT_LIBRARY)
+        expect(run([bin_folder / command, "--version"]), wanted, f"{command} --version")
+    # What a page has beside its modules is in the wheel.
+    program = "import importlib.resources as r; it = r.files('elephant.browse'); print(*(len(list((it / f).iterdir())) for f in FOLDERS))"
+    files = [len(list((ROOT / "clients/python/src/elephant/browse" / it).iterdir())) for it in ("static", "templates")]
+    counted = run([bin_folder / "python", "-c", f"FOLDERS = 'static', 'templates'; {program}"])
+    expect(counted, " ".join(map(str, files)) + "\n", "how many scripts, styles and templates are installed")
     expect(run([bin_folder / "pip", "check"]), "No broken requirements found.\n", "pip check")
     run([bin_folder / "pip", "uninstall", "--quiet", "--yes", "elephant-store"])
     left = [str(it) for it in folder.rglob("*elephant*")]

@@ -88,7 +88,7 @@ class Journal:
         while True:
             is_new = self._open_file()
             found = os.fstat(self.file)
-            self._identity = found.st_ino, found.st_dev
+            self.identity = found.st_ino, found.st_dev
             if not stat.S_ISREG(found.st_mode):
                 raise JournalError(f"{self.path} is no regular file")
             if self.read_only:
@@ -278,7 +278,7 @@ class Journal:
         except OSError as fault:
             reason = "was deleted or renamed" if fault.errno == errno.ENOENT else f"can't be found: {fault.strerror}"
             raise JournalLost(f"{self.path} {reason}, so what is written to it would be lost") from fault
-        if (named.st_ino, named.st_dev) != self._identity:
+        if (named.st_ino, named.st_dev) != self.identity:
             raise JournalLost(f"{self.path} was replaced by another file, so what is written to it would be lost")
         if named.st_size != size:
             raise JournalLost(f"{self.path} has {named.st_size} bytes, and not the {size} that were written: another program changed it")

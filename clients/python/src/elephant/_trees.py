@@ -169,7 +169,7 @@ class Trees(Forgetting):
             plan = _Plan(self, self._begin(), top, seconds)
             made: dict[bytes, int] = {}
             if not dry_run:
-                self._require_left(plan)
+                self._require_limits(plan)
                 made = self._run_steps(plan.steps, seconds)
         steps = tuple(TreeStep(it.word, path_of(it.path), it.is_missing, made.get(it.path)) for it in plan.steps)
         left = tuple((path_of(it), why) for it, why in plan.left.items())
@@ -179,7 +179,7 @@ class Trees(Forgetting):
         """Whether a session writes a file."""
         return file in self._drafts
 
-    def _require_left(self, plan: _Plan) -> None:
+    def _require_limits(self, plan: _Plan) -> None:
         """Raises Full if the limits don't allow a plan."""
         counts = self.counts()
         for what, needed in plan.needs().items():
