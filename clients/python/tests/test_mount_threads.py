@@ -484,6 +484,38 @@ class Words(Parts):
         self.assertIn("\n- the time of day jumped ahead by 30 days: moments are of the store's time, which is ", text)
         self.assertEqual(it.read(b"f"), b"one")
 
+    def test_a_folder_is_restored_by_its_line(self) -> None:
+        clocks = FalseClocks()
+        it = self.mounted = Mounted(self.journal, clock=clocks)
+        self.addCleanup(it.store.close)
+        lines = Lines(Operations(it.store, it.tree, it.contents, it.naming, it.past, Said()))
+        folder = it.naming.mkdir(it.top, b"my d", FOLDER, 0, 0)
+
+        def held(name: bytes) -> bytes:
+            return it.contents.whole(it.file(name, folder))
+
+        it.save(b"f", b"one", folder)
+        it.save(b"g", b"one", folder)
+        moment = int(it.store.now)
+        clocks.pass_by(10)
+        it.save(b"f", b"two", folder)
+        it.naming.unlink(folder, b"g")
+        clocks.pass_by(10)
+        for path in ("/my%20d", "'/my d'"):
+            text, changes = lines.answer(f"restore --dry-run {path} {moment}")
+            self.assertRegex(text, "^ok would make my d as it was at [^\n]*: 2 files\n- undelete my d/g\n- content my d/f: version 2\n$")
+            self.assertEqual((changes, held(b"f")), ([], b"two"))
+        text, changes = lines.answer(f"restore /my%20d {moment}")
+        self.assertRegex(text, "^ok my d is as it was at .*: 2 files, 1 brought back, 1 with the content of then\n$")
+        self.assertEqual((held(b"f"), held(b"g")), (b"one", b"one"))
+        self.assertTrue(changes)
+        # A moment as people type it, and one of a file in seconds alone, which is the command of the script language.
+        self.assertRegex(lines.answer("restore '/my d' 20 seconds ago")[0], "^ok my d is as it was at .*: 2 files\n$")
+        self.assertEqual(lines.answer(f"restore /my%20d/f {moment + 10}")[0], "ok version 5\n")
+        self.assertRegex(lines.answer("restore '/my d/f' 20 seconds ago")[0], "^ok version 6: what my d/f held at ")
+        self.assertEqual(lines.answer(f"restore /none {moment}")[0], "no 5 NoEntry\n")
+        self.assertRegex(lines.answer("restore --dry-run /none 5 seconds ago")[0], "^no: there was no none at ")
+
 
 class Beginning(Case):
     def test_a_folder_that_can_not_be_mounted(self) -> None:

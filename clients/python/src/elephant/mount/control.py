@@ -18,7 +18,7 @@ from typing import Optional
 from zlib import crc32
 
 from .. import BadName, ClockDoubt, ElephantError, Refused, read_time
-from ..keeping import NoSpace, require_shown, told_time
+from ..keeping import AT, NoSpace, require_shown, told_time
 from .names import name_in
 from .operations import Operations
 from .tree import Directory, File, Node
@@ -70,6 +70,8 @@ class Lines:
             changes: Changes = []
             try:
                 try:
+                    if self._restores_folder(words):
+                        words[0] = "undo"
                     with self.store.quota.undoing(words[0] in _UNDOING):
                         text = self._undo(words) if words[0] == "undo" else self._line(words)
                 finally:  # the store may have done what the journal couldn't take
@@ -145,6 +147,18 @@ class Lines:
 
     # Undo.
 
+    def _restores_folder(self, words: list[str]) -> bool:
+        """Whether a line is a `restore` that an undo does: of a folder, or to a moment that isn't seconds alone."""
+        if words[0] != "restore" or len(words) < 3:
+            return False
+        if words[1] == "--dry-run" or len(words) > 3 or not words[2].isdigit():
+            return True
+        path = as_bytes(words[1])
+        try:
+            return isinstance(self.tree.find(path), Directory) or bool(self.store.stat_row(path, AT, int(words[2])).is_directory)
+        except ElephantError:
+            return False
+
     def _undo(self, words: list[str]) -> str:
         """Brings back what a file or a folder was before its last change, or at a moment."""
         self._is_of_one = False
@@ -157,7 +171,7 @@ class Lines:
         words[1:] = [place.decode("ascii"), *moment]
         has_parent = isinstance(self.tree.find(place.rpartition(b"/")[0]), Directory)
         self._is_of_one = not moment and has_parent and not isinstance(self.tree.find(place), Directory)
-        asked = read_time(" ".join(moment), int(self.store.now)).moment if moment else None
+        asked = read_time(_with_sign(moment), int(self.store.now)).moment if moment else None
         return self.undo.run(place, asked, bool(options)) + (self._clock_note() if moment else "")
 
     def _as_shown(self, path: bytes) -> bytes:
@@ -174,6 +188,11 @@ class Lines:
         """Returns what a moment means while the clock is in doubt, or an empty text."""
         fault = self.store.clock_fault
         return f"- {fault}: moments are of the store's time, which is {told_time(int(self.store.now))}\n" if fault else ""
+
+
+def _with_sign(moment: list[str]) -> str:
+    """Returns the words of a moment as one text. A number alone means seconds, however small it is."""
+    return f"@{moment[0]}" if len(moment) == 1 and moment[0].isdigit() else " ".join(moment)
 
 
 class Control:

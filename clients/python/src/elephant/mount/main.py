@@ -80,7 +80,7 @@ def send(folder: str, words: list[str]) -> int:
     typed = words[0] if len(words) == 1 else ""
     try:
         words = words_of(typed) if typed else list(words)
-        if words[0] == "undo":
+        if words[0] == "undo" or words[0] == "restore" and not (len(words) == 3 and words[1][:1] == "/" and words[2].isdigit()):
             words = undo_line(folder, typed, [it for it in words if it])
         answer = ask(folder, line_of(words))
     except ValueError as fault:

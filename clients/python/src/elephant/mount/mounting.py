@@ -65,7 +65,7 @@ class Mount:
         self.keeper = Keeper(self.operations, self.rewriting, self.log, self._tell_kernel, *every, asked.is_guarded)
         self.lines.more = {
             "rewrite": self.rewriting.run_and_tell, "clean all": self._clean_all, "dump": self._dump, "time": self._time,
-            CLOCK_IS_RIGHT: self._trust_clock,
+            CLOCK_IS_RIGHT: self._trust_clock, "journal": lambda: f"ok {asked.journal}\n",
         }
         self._show_removals(asked.clean_every > 0 and not asked.is_read_only)
         self._is_mounted, self._is_ending = False, False
