@@ -3,6 +3,7 @@ out by hand; what an act has done is read from the store."""
 
 from __future__ import annotations
 
+import errno
 import importlib.util
 import json
 import re
@@ -11,15 +12,16 @@ import time
 import unittest
 from pathlib import Path
 from typing import Optional
+from unittest import mock
 from urllib.parse import urlencode
 
-from elephant import FileStat, KeepAll, KeepOne, KeepSafe, Landmarks, Policy, Store
+from elephant import FileStat, JournalError, KeepAll, KeepOne, KeepSafe, Landmarks, Policy, Store
 
 HAS_FLASK = importlib.util.find_spec("flask") is not None and importlib.util.find_spec("waitress") is not None
 if HAS_FLASK:
     from browsing import Answer, Elements, Served
     from elephant.browse import contents
-    from elephant.browse.sources import JournalSource
+    from elephant.browse.sources import ChangeRefused, JournalSource
 
 NOW = 1_796_000_000
 DAY = 86_400
@@ -93,6 +95,8 @@ class Views(Case):
     def test_deleted_names_are_shown_on_request(self) -> None:
         self.assertNotIn("Bring back", self.text("/"))
         self.assertIn("Bring back plan", self.text("/?deleted=1"))
+        self.assertIn("plan deleted", self.text("/?path=/letter&deleted=1"))
+        self.assertNotIn("plan deleted", self.text(f"/?path=/letter&deleted=1&at={NOW + 150}"))
         self.assertIn(f"/?path=/plan&at={NOW + 199}&deleted=1", self.links("/?deleted=1"))
         self.assertIn("plan", self.text(f"/?path=/plan&at={NOW + 199}"))
 
@@ -344,6 +348,24 @@ class Looking(unittest.TestCase):
                         other.save("/other", b"1")
                         self.assertIn("other", page.ask("/").text)
                         self.assertNotIn("letter", page.ask("/").text)
+
+    def test_a_journal_that_can_not_be_written_is_shown(self) -> None:
+        with tempfile.TemporaryDirectory() as room:
+            journal = str(Path(room, "j"))
+            with Store(journal, clock="manual", fsync="sync") as writer:
+                fill(writer)
+            for number, wanted in ((errno.EROFS, "can't be written"), (errno.EIO, None)):
+                fault = JournalError("no")
+                fault.__cause__ = OSError(number, "no")
+                with mock.patch("elephant.browse.sources.Opened", side_effect=fault):
+                    if wanted is None:
+                        self.assertRaises(JournalError, JournalSource, journal)
+                        continue
+                    source = JournalSource(journal)
+                self.assertIn(wanted, source.fault)
+                with self.assertRaises(ChangeRefused):
+                    source.run("unlink", "/letter")
+                source.close()
 
 
 @unittest.skipUnless(HAS_FLASK, "there is no flask or waitress")

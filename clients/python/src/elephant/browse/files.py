@@ -85,7 +85,7 @@ def outcomes(store: LookedAt, path: bytes, at: Optional[int], versions: Iterable
     for it in versions:
         end = ends.get(it.number)
         if end is None:
-            rows[it.number] = Outcome("kept", None, "kept for good")
+            rows[it.number] = Outcome("kept", None, "kept, if only time passes")
         else:
             rows[it.number] = Outcome("until", end, "kept for a time") if end > now else Outcome("due", end, "may be removed")
     return rows

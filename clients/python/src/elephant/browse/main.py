@@ -108,7 +108,7 @@ def _serve(asked: argparse.Namespace, source: Source) -> int:
     """Answers until the program is ended."""
     server, door = serving(source, asked.port, lambda address: print(f"for another browser: {address}", flush=True))
     print(door.entrance, flush=True)
-    if not asked.no_open:
+    if not asked.no_open and _has_screen():
         threading.Thread(target=webbrowser.open, args=(door.entrance,), daemon=True).start()
     for number in (signal.SIGTERM, signal.SIGHUP):
         signal.signal(number, _interrupt)
@@ -119,6 +119,11 @@ def _serve(asked: argparse.Namespace, source: Source) -> int:
     finally:
         server.close()
     return 0
+
+
+def _has_screen() -> bool:
+    """Whether a browser can show something: one in a terminal would take the terminal."""
+    return any(os.environ.get(it) for it in ("DISPLAY", "WAYLAND_DISPLAY", "BROWSER"))
 
 
 def _interrupt(*_: object) -> None:

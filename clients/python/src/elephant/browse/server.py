@@ -108,12 +108,14 @@ class Page:
         """Returns what each page has: the tree, the slider and the notice."""
         notes = self.store.notes
         count = len(notes.moments)
+        wants_deleted = bool(self._word("deleted"))
         # The tree of now is that of the last change.
         before, after = notes.around(at if at is not None else int(notes.moments[-1]) if count else 0)
         return {
             "source": self.source, "path": path.decode(), "name": told(path), "crumbs": crumbs(path), "at": at,
-            "tree": tree(self.store, path, at), "moments": count, "index": count if at is None else max(notes.index_at(at) - 1, 0),
-            "before": before, "after": after, "wants_deleted": bool(self._word("deleted")),
+            "tree": tree(self.store, path, at, wants_deleted), "moments": count,
+            "index": count if at is None else max(notes.index_at(at) - 1, 0),
+            "before": before, "after": after, "wants_deleted": wants_deleted,
             "undoable": self.acts.done[-1].what if self.acts.done else None, "notice": self._notice(),
             "clock_fault": self.store.clock_fault,
         }

@@ -2,11 +2,12 @@
 
 from __future__ import annotations
 
+import errno
 import os
 from abc import ABC, abstractmethod
 from collections.abc import Sequence
 
-from .. import ElephantError, JournalLocked
+from .. import ElephantError, JournalError, JournalLocked
 from ..mount.client import ask, mount_of
 from ..mount.wording import line_of
 from .looking import Follower, LookedAt, Opened
@@ -72,7 +73,11 @@ class JournalSource(Source):
                 self.store = Opened(journal, history=history, clock="manual" if is_manual else "system")
                 return
             except JournalLocked:
-                self.fault = "another program has the journal open, so it can only be looked at"
+                self.fault = "another program has the journal open"
+            except JournalError as fault:
+                if getattr(fault.__cause__, "errno", 0) not in (errno.EACCES, errno.EPERM, errno.EROFS):
+                    raise
+                self.fault = "the journal can't be written"
         self.fault = self.fault or "the page was opened to look"
         self.store = Follower(journal, history=history)
 

@@ -83,8 +83,8 @@ def told(path: bytes) -> str:
     return shown(path_of(path))
 
 
-def tree(store: LookedAt, path: bytes, at: Optional[int]) -> Optional[Level]:
-    """Returns the folders down to a path, each with some of its names."""
+def tree(store: LookedAt, path: bytes, at: Optional[int], wants_deleted: bool = False) -> Optional[Level]:
+    """Returns the folders down to a path, each with some of its names, and with deleted ones if they are wanted."""
     names = [it for it in path.split(b"/") if it]
     level: Optional[Level] = None
     for depth in range(len(names), -1, -1):
@@ -92,6 +92,8 @@ def tree(store: LookedAt, path: bytes, at: Optional[int]) -> Optional[Level]:
         chosen = names[depth] if depth < len(names) else None
         try:
             level = _level(store, folder, at, chosen, level)
+            if wants_deleted:
+                level = level._replace(rows=level.rows + _deleted_in(store, folder, at, level))
         except (ElephantError, ValueError):
             level = None  # it is a file, or it wasn't there
     return level
@@ -104,6 +106,15 @@ def _level(store: LookedAt, folder: bytes, at: Optional[int], chosen: Optional[b
     entries, total = store.names_page(folder, at, start, MOST_TREE)
     rows = [Row(shown(it.name), text(joined(folder, it.spelled)), it.is_directory) for it in entries]
     return Level(text(folder), rows, total, None if chosen is None else text(joined(folder, chosen)), below)
+
+
+def _deleted_in(store: LookedAt, folder: bytes, at: Optional[int], level: Level) -> list[Row]:
+    """Returns some deleted names of a folder that aren't among those of a level."""
+    found = find(store, folder, at)
+    assert isinstance(found, DirectoryStat)
+    deleted = [_deleted_row(folder, it) for it in store.deleted_page(found.directory, 0, MOST_TREE)[0]]
+    names = {it.name for it in level.rows}
+    return [it for it in deleted if it.name not in names]
 
 
 def folder_rows(store: LookedAt, folder: bytes, at: Optional[int], start: int) -> Part:

@@ -74,7 +74,7 @@ def outcome_of(fate: Fate, now: int) -> Outcome:
         return Outcome("marked", fate.until, "kept by a mark")
     if isinstance(fate, Kept):
         if fate.until is None:
-            return Outcome("kept", None, "kept for good")
+            return Outcome("kept", None, "kept, if only time passes")
         kind, words = ("until", "kept for a time") if fate.until > now else ("due", "may be removed")
         return Outcome(kind, int(fate.until), words)
     assert isinstance(fate, Due)

@@ -21,7 +21,7 @@ def ask(folder: str, line: str) -> str:
 
 
 def undo_line(folder: str, text: str, words: list[str]) -> list[str]:
-    """Returns the words of a line that undoes or restores, with the path as the store spells it. `text` is the line as it was typed, if it was one
+    """Returns the words of a line that undoes or restores, with the path as the store spells it. `text` is the line as typed, if it was one
     word: then the file's name may have spaces without quotes."""
     options = [it for it in words[1:] if it.startswith("--")]
     rest = [it for it in words[1:] if it not in options]

@@ -1,0 +1,6 @@
+class Keys:
+    TAB: str
+    ENTER: str
+    SPACE: str
+    ARROW_LEFT: str
+    HOME: str
