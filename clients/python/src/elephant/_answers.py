@@ -3,9 +3,8 @@
 from __future__ import annotations
 
 from enum import Enum
-from typing import NamedTuple, Optional, Union
+from typing import Any, NamedTuple, Optional, Union
 
-from ._library import StatRow, VersionRow
 from ._moments import Moment, moment_or_none
 from ._policies import Policy
 
@@ -48,7 +47,7 @@ class Version(NamedTuple):
     length: int
 
     @classmethod
-    def of_row(cls, row: VersionRow) -> Version:
+    def of_row(cls, row: Any) -> Version:
         """Makes it of a row of the C library."""
         return cls(row.number, Moment(row.opened), Moment(row.closed), moment_or_none(row.ended), row.length)
 
@@ -65,7 +64,7 @@ class FileStat(NamedTuple):
     policy: Policy
 
     @classmethod
-    def of_row(cls, row: StatRow, policy: Policy) -> FileStat:
+    def of_row(cls, row: Any, policy: Policy) -> FileStat:
         """Makes it of a row of the C library, and the file's policy."""
         return cls(row.id, row.version, Moment(row.opened), Moment(row.closed), moment_or_none(row.ended), row.length, policy)
 
