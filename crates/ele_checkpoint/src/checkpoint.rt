@@ -109,7 +109,7 @@ fn inside(alloc: Global, body: &[u8]) -> Result<Flat, Stop>
 }
 
 // Reads a world from all of the bytes.
-#[tactic(auto, unfolding(crate::specs::Whole::all_at))]
+#[tactic(auto, unfolding(crate::specs::PartsRead::all_at))]
 fn all_of(alloc: Global, bytes: &[u8]) -> Result<Flat, Stop>
     ensures { Gives (λ flat. flat) result (all_at bytes.now) }
 {

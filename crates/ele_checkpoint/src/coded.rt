@@ -40,7 +40,7 @@ pub(crate) fn put_list<T: Coded>(out: &mut Vec<u8>, items: &[T]) -> Result<(), N
 }
 
 /// Reads a list. The bytes after it follow in the result.
-#[tactic(auto, unfolding(crate::specs::Lists::list_at))]
+#[tactic(auto, unfolding(crate::specs::PartsRead::list_at))]
 pub(crate) fn list_of<T: Coded>(alloc: Global, bytes: &[u8]) -> Result<(Vec<T>, &[u8]), Stop>
     ensures { Gives (λ x. (x.0.items, x.1.now)) result (list_at T.reading bytes.now) }
 {

@@ -23,7 +23,7 @@ fn put_cell(out: &mut Vec<u8>, told: &Cell) -> Result<(), NoMemory>
 }
 
 // Reads a cell.
-#[tactic(auto, unfolding(crate::specs::Cells::cell_at))]
+#[tactic(auto, unfolding(crate::specs::PartsRead::cell_at))]
 fn cell_of(alloc: Global, bytes: &[u8]) -> Result<(Cell, &[u8]), Stop>
     ensures { Gives (λ x. (x.0, x.1.now)) result (cell_at bytes.now) }
 {
@@ -99,7 +99,7 @@ pub(crate) fn put_content(out: &mut Vec<u8>, base: &[Cell], cells: &[Cell]) -> R
 }
 
 /// Reads a content, beside an earlier one of the same file.
-#[tactic(auto, unfolding(crate::specs::Cells::content_at))]
+#[tactic(auto, unfolding(crate::specs::PartsRead::content_at))]
 pub(crate) fn content_of<'a>(
     alloc: Global,
     base: &[Cell],
@@ -145,7 +145,7 @@ fn slots_of<'a>(
 }
 
 // Reads the cell of a slot, and how many are kept after it.
-#[tactic(auto, unfolding(crate::specs::Cells::slot_at))]
+#[tactic(auto, unfolding(crate::specs::PartsRead::slot_at))]
 fn slot_of<'a>(
     alloc: Global,
     before: Option<&Cell>,
@@ -165,7 +165,7 @@ fn slot_of<'a>(
 }
 
 // Reads a cell that isn't kept, and how many are kept after it.
-#[tactic(auto, unfolding(crate::specs::Cells::slot_at))]
+#[tactic(auto, unfolding(crate::specs::PartsRead::slot_at))]
 fn told_of<'a>(
     alloc: Global,
     before: Option<&Cell>,

@@ -53,7 +53,7 @@ pub(crate) fn put_drafts(
 }
 
 // Reads a draft.
-#[tactic(auto, unfolding(crate::specs::Contents::draft_at))]
+#[tactic(auto, unfolding(crate::specs::PartsRead::draft_at))]
 fn draft_of<'a>(
     alloc: Global,
     rows: &[VersionRow],
@@ -75,7 +75,7 @@ fn draft_of<'a>(
 }
 
 /// Reads the drafts.
-#[tactic(auto, unfolding(crate::specs::Contents::drafts_at, crate::specs::Lists::list_at))]
+#[tactic(auto, unfolding(crate::specs::PartsRead::drafts_at, crate::specs::PartsRead::list_at))]
 pub(crate) fn drafts_of<'a>(
     alloc: Global,
     rows: &[VersionRow],

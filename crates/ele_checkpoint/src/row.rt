@@ -26,7 +26,7 @@ impl Coded for DirectoryRow {
         put_policy(out, &self.default)
     }
 
-    #[tactic(auto, unfolding(crate::specs::Rows::directory_at))]
+    #[tactic(auto, unfolding(crate::specs::PartsRead::directory_at))]
     fn get(alloc: Global, bytes: &[u8]) -> Result<(DirectoryRow, &[u8]), Stop> {
         let (id, rest) = number_of(bytes)?;
         let (default, rest) = taken!(policy_of(alloc, rest));
@@ -46,7 +46,7 @@ impl Coded for FileRow {
         put_number(out, self.next.0)
     }
 
-    #[tactic(auto, unfolding(crate::specs::Rows::file_at))]
+    #[tactic(auto, unfolding(crate::specs::PartsRead::file_at))]
     fn get(alloc: Global, bytes: &[u8]) -> Result<(FileRow, &[u8]), Stop> {
         let (id, rest) = number_of(bytes)?;
         let (policy, rest) = taken!(policy_of(alloc, rest));
@@ -70,7 +70,7 @@ impl Coded for NameRow {
         put_maybe(out, self.death)
     }
 
-    #[tactic(auto, unfolding(crate::specs::Rows::name_row_at))]
+    #[tactic(auto, unfolding(crate::specs::PartsRead::name_row_at))]
     fn get(_alloc: Global, bytes: &[u8]) -> Result<(NameRow, &[u8]), Stop> {
         let (directory, rest) = number_of(bytes)?;
         let (name, rest) = taken!(name_of(rest));
@@ -98,7 +98,7 @@ impl Coded for HandleRow {
         put_reads(out, self.reads)
     }
 
-    #[tactic(auto, unfolding(crate::specs::Rows::handle_at))]
+    #[tactic(auto, unfolding(crate::specs::PartsRead::handle_at))]
     fn get(_alloc: Global, bytes: &[u8]) -> Result<(HandleRow, &[u8]), Stop> {
         let (number, rest) = number_of(bytes)?;
         let (reads, rest) = taken!(reads_of(rest));
@@ -132,7 +132,7 @@ impl Coded for MarkRow {
         put_maybe(out, self.until)
     }
 
-    #[tactic(auto, unfolding(crate::specs::Rows::mark_at))]
+    #[tactic(auto, unfolding(crate::specs::PartsRead::mark_at))]
     fn get(_alloc: Global, bytes: &[u8]) -> Result<(MarkRow, &[u8]), Stop> {
         let (at, rest) = taken!(moment_of(bytes));
         let (until, rest) = taken!(maybe_of(rest));
@@ -151,7 +151,7 @@ impl Coded for GroupRow {
         put_list(out, self.marks.as_slice())
     }
 
-    #[tactic(auto, unfolding(crate::specs::Rows::group_at))]
+    #[tactic(auto, unfolding(crate::specs::PartsRead::group_at))]
     fn get(alloc: Global, bytes: &[u8]) -> Result<(GroupRow, &[u8]), Stop> {
         let (name, rest) = taken!(name_of(bytes));
         let (members, rest) = taken!(list_of::<FileId>(alloc, rest));

@@ -25,7 +25,7 @@ pub(crate) fn put_string(out: &mut Vec<u8>, bytes: &[u8]) -> Result<(), NoMemory
 }
 
 /// Reads bytes that have their number first.
-#[tactic(auto, unfolding(crate::specs::Values::string_at))]
+#[tactic(auto, unfolding(crate::specs::PartsRead::string_at))]
 pub(crate) fn string_of(bytes: &[u8]) -> Result<(&[u8], &[u8]), Stop>
     ensures { Gives (λ x. (x.0.now, x.1.now)) result (string_at bytes.now) }
 {
@@ -45,7 +45,7 @@ pub(crate) fn put_truth(out: &mut Vec<u8>, value: bool) -> Result<(), NoMemory>
 }
 
 /// Reads a truth value.
-#[tactic(auto, unfolding(crate::specs::Values::truth_at))]
+#[tactic(auto, unfolding(crate::specs::PartsRead::truth_at))]
 pub(crate) fn truth_of(bytes: &[u8]) -> Result<(bool, &[u8]), Stop>
     ensures { Gives (λ x. (x.0, x.1.now)) result (truth_at bytes.now) }
 {
@@ -65,7 +65,7 @@ pub(crate) fn put_moment(out: &mut Vec<u8>, moment: Moment) -> Result<(), NoMemo
 }
 
 /// Reads a moment.
-#[tactic(auto, unfolding(crate::specs::Values::moment_at))]
+#[tactic(auto, unfolding(crate::specs::PartsRead::moment_at))]
 pub(crate) fn moment_of(bytes: &[u8]) -> Result<(Moment, &[u8]), Stop>
     ensures { Gives (λ x. (x.0, x.1.now)) result (moment_at bytes.now) }
 {
@@ -93,7 +93,7 @@ pub(crate) fn put_maybe(out: &mut Vec<u8>, moment: Option<Moment>) -> Result<(),
 }
 
 /// Reads a moment, or that there is none.
-#[tactic(auto, unfolding(crate::specs::Values::maybe_at))]
+#[tactic(auto, unfolding(crate::specs::PartsRead::maybe_at))]
 pub(crate) fn maybe_of(bytes: &[u8]) -> Result<(Option<Moment>, &[u8]), Stop>
     ensures { Gives (λ x. (x.0, x.1.now)) result (maybe_at bytes.now) }
 {
@@ -109,7 +109,7 @@ pub(crate) fn maybe_of(bytes: &[u8]) -> Result<(Option<Moment>, &[u8]), Stop>
 }
 
 /// Reads a name.
-#[tactic(auto, unfolding(crate::specs::Values::name_at))]
+#[tactic(auto, unfolding(crate::specs::PartsRead::name_at))]
 pub(crate) fn name_of(bytes: &[u8]) -> Result<(Name, &[u8]), Stop>
     ensures { Gives (λ x. (x.0, x.1.now)) result (name_at bytes.now) }
 {
@@ -130,7 +130,7 @@ impl Coded for (u64, u64) {
         put_number(out, self.1)
     }
 
-    #[tactic(auto, unfolding(crate::specs::Values::rung_at))]
+    #[tactic(auto, unfolding(crate::specs::PartsRead::rung_at))]
     fn get(_alloc: Global, bytes: &[u8]) -> Result<((u64, u64), &[u8]), Stop> {
         let (age, rest) = number_of(bytes)?;
         let (width, rest) = number_of(rest)?;
@@ -164,7 +164,7 @@ pub(crate) fn put_policy(out: &mut Vec<u8>, value: &Policy) -> Result<(), NoMemo
 }
 
 /// Reads a policy.
-#[tactic(auto, unfolding(crate::specs::Values::policy_at))]
+#[tactic(auto, unfolding(crate::specs::PartsRead::policy_at))]
 pub(crate) fn policy_of(alloc: Global, bytes: &[u8]) -> Result<(Policy, &[u8]), Stop>
     ensures { Gives (λ x. (x.0, x.1.now)) result (policy_at bytes.now) }
 {
@@ -179,7 +179,7 @@ pub(crate) fn policy_of(alloc: Global, bytes: &[u8]) -> Result<(Policy, &[u8]), 
 }
 
 // Reads the numbers of Keep Safe.
-#[tactic(auto, unfolding(crate::specs::Values::safe_at))]
+#[tactic(auto, unfolding(crate::specs::PartsRead::safe_at))]
 fn safe_of(bytes: &[u8]) -> Result<(Policy, &[u8]), Stop>
     ensures { Gives (λ x. (x.0, x.1.now)) result (safe_at bytes.now) }
 {
@@ -192,7 +192,7 @@ fn safe_of(bytes: &[u8]) -> Result<(Policy, &[u8]), Stop>
 }
 
 // Reads a ladder.
-#[tactic(auto, unfolding(crate::specs::Values::ladder_at))]
+#[tactic(auto, unfolding(crate::specs::PartsRead::ladder_at))]
 fn ladder_of(alloc: Global, bytes: &[u8]) -> Result<(Policy, &[u8]), Stop>
     ensures { Gives (λ x. (x.0, x.1.now)) result (ladder_at bytes.now) }
 {
@@ -220,7 +220,7 @@ pub(crate) fn put_target(out: &mut Vec<u8>, value: Target) -> Result<(), NoMemor
 }
 
 /// Reads what a name means.
-#[tactic(auto, unfolding(crate::specs::Values::target_at))]
+#[tactic(auto, unfolding(crate::specs::PartsRead::target_at))]
 pub(crate) fn target_of(bytes: &[u8]) -> Result<(Target, &[u8]), Stop>
     ensures { Gives (λ x. (x.0, x.1.now)) result (target_at bytes.now) }
 {
@@ -256,7 +256,7 @@ pub(crate) fn put_reads(out: &mut Vec<u8>, value: Reads) -> Result<(), NoMemory>
 }
 
 /// Reads what a handle reads.
-#[tactic(auto, unfolding(crate::specs::Values::reads_at))]
+#[tactic(auto, unfolding(crate::specs::PartsRead::reads_at))]
 pub(crate) fn reads_of(bytes: &[u8]) -> Result<(Reads, &[u8]), Stop>
     ensures { Gives (λ x. (x.0, x.1.now)) result (reads_at bytes.now) }
 {

@@ -61,7 +61,7 @@ pub(crate) fn put_versions(out: &mut Vec<u8>, rows: &[VersionRow]) -> Result<(),
 }
 
 // Reads a version.
-#[tactic(auto, unfolding(crate::specs::Contents::version_at))]
+#[tactic(auto, unfolding(crate::specs::PartsRead::version_at))]
 fn version_of<'a>(
     alloc: Global,
     before: Option<&VersionRow>,
@@ -87,7 +87,7 @@ fn version_of<'a>(
 }
 
 /// Reads the versions.
-#[tactic(auto, unfolding(crate::specs::Contents::versions_at))]
+#[tactic(auto, unfolding(crate::specs::PartsRead::versions_at))]
 pub(crate) fn versions_of(alloc: Global, bytes: &[u8]) -> Result<(Vec<VersionRow>, &[u8]), Stop>
     ensures { Gives (λ x. (x.0.items, x.1.now)) result (versions_at bytes.now) }
 {

@@ -28,7 +28,7 @@ fn put_three(out: &mut Vec<u8>, a: u64, b: u64, c: u64) -> Result<(), NoMemory>
 }
 
 // Reads three numbers.
-#[tactic(auto, unfolding(crate::specs::Whole::three_at))]
+#[tactic(auto, unfolding(crate::specs::PartsRead::three_at))]
 fn three_of(bytes: &[u8]) -> Result<((u64, u64, u64), &[u8]), Stop>
     ensures { Gives (λ x. (x.0, x.1.now)) result (three_at bytes.now) }
 {
@@ -49,7 +49,7 @@ fn put_counts(out: &mut Vec<u8>, made: &Counts) -> Result<(), NoMemory>
 }
 
 // Reads the counts.
-#[tactic(auto, unfolding(crate::specs::Whole::counts_at))]
+#[tactic(auto, unfolding(crate::specs::PartsRead::counts_at))]
 fn counts_of(bytes: &[u8]) -> Result<(Counts, &[u8]), Stop>
     ensures { Gives (λ x. (x.0, x.1.now)) result (counts_at bytes.now) }
 {
@@ -83,7 +83,7 @@ fn put_limits(out: &mut Vec<u8>, most: &Limits) -> Result<(), NoMemory>
 }
 
 // Reads the limits.
-#[tactic(auto, unfolding(crate::specs::Whole::limits_at))]
+#[tactic(auto, unfolding(crate::specs::PartsRead::limits_at))]
 fn limits_of(bytes: &[u8]) -> Result<(Limits, &[u8]), Stop>
     ensures { Gives (λ x. (x.0, x.1.now)) result (limits_at bytes.now) }
 {
@@ -124,7 +124,7 @@ pub(crate) fn put_whole(out: &mut Vec<u8>, flat: &Flat) -> Result<(), NoMemory>
 }
 
 /// Reads a world. The bytes after it follow in the result.
-#[tactic(auto, unfolding(crate::specs::Whole::whole_at))]
+#[tactic(auto, unfolding(crate::specs::PartsRead::whole_at))]
 pub(crate) fn whole_of(alloc: Global, bytes: &[u8]) -> Result<(Flat, &[u8]), Stop>
     ensures { Gives (λ x. (x.0, x.1.now)) result (whole_at bytes.now) }
 {
