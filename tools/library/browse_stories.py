@@ -4,8 +4,10 @@ import contextlib
 import os
 import subprocess
 import sys
+import threading
 import time
 from collections.abc import Iterator
+from http.server import BaseHTTPRequestHandler, ThreadingHTTPServer
 from pathlib import Path
 
 from elephant import KeepSafe, Store
@@ -173,6 +175,85 @@ def hostile(room: Path) -> Count:
         faults = [it for it in browser.faults() if "404" not in it and "/image" not in it]
         expect(faults == [], f"the browser complains: {faults[:3]}")
     return len(found) * 6
+
+
+EVIL = """<!DOCTYPE html><title>evil</title><body><script>
+const target = TARGET, seen = window.seen = {};
+const note = (name, what) => { seen[name] = what; };
+for (const [tag, address] of [["img", "/image?path=/logo.png&version=2"], ["script", "/static/browse.js"], ["script", "/moment?index=0"]]) {
+  const it = document.createElement(tag);
+  it.onload = () => note(address, "loaded");
+  it.onerror = () => note(address, "refused");
+  it.src = target + address;
+  document.body.append(it);
+}
+for (const mode of ["cors", "no-cors"]) {
+  const asked = fetch(target + "/?path=/notes", { credentials: "include", mode });
+  asked.then((it) => it.text()).then((text) => note(mode, text), () => note(mode, "refused"));
+}
+const frame = document.createElement("iframe");
+frame.src = target + "/?path=/notes";
+frame.name = "frame";
+document.body.append(frame);
+const form = document.createElement("form");
+form.method = "post"; form.action = target + "/do/restore"; form.target = "frame";
+for (const [name, value] of [["path", "/letters/offer"], ["version", "3"], ["token", "x"], ["state", "x"]]) {
+  const it = document.createElement("input");
+  it.name = name; it.value = value; form.append(it);
+}
+document.body.append(form);
+form.submit();
+</script>"""
+
+
+def others(room: Path) -> Count:
+    """Another page of this machine, one of a name that leads to it, and a name in place of the page's own host get nothing."""
+    journal = room / "others"
+    browse_stores.documents(journal)
+    before = journal.read_bytes()
+    with visiting(room, str(journal), "--manual") as (browser, _), _serving(EVIL, browser.origin) as port:
+        # A server without a guard gives its scripts to another host's page, and that is noticed.
+        browser.driver.get(f"http://evil.example:{port}/control")
+        browser.until(lambda: list(browser.script("return Object.values(window.seen)")).count("loaded") == 2, "what is loaded is noticed")
+        for host in ("127.0.0.1", "evil.example"):
+            browser.driver.get(f"http://{host}:{port}/")
+            browser.until(lambda: len(browser.script("return Object.keys(window.seen)")) == 5, "each try of the other page ends")
+            seen = browser.script("return window.seen")
+            expect(set(seen.values()) <= {"refused", ""}, f"a page of {host} got {seen}")
+            expect(browser.script("try { return frames[0].document.body.textContent } catch { return '' }") == "", "it reads a frame")
+        page = int(browser.origin.rpartition(":")[2])
+        for host in ("evil.example", "localhost"):
+            browser.driver.get(f"http://{host}:{page}/?path=/notes")
+            expect("buy milk" not in browser.text() and "403" in browser.text(), f"the page answers to the name {host}")
+        browser.visit(path="/notes")
+        expect("buy milk" in browser.text("pre.content"), "the user is still in")
+    expect(journal.read_bytes() == before, "another page changed something")
+    return 17
+
+
+@contextlib.contextmanager
+def _serving(page: str, target: str) -> Iterator[int]:
+    """Serves a page at another port, whose target is a server, or at `/control` this one."""
+
+    class Handler(BaseHTTPRequestHandler):
+        def do_GET(self) -> None:
+            is_page = self.path in ("/", "/control")
+            self.send_response(200)
+            self.send_header("Content-Type", "text/html" if is_page else "text/javascript")
+            self.end_headers()
+            own = f"http://127.0.0.1:{server.server_port}" if self.path == "/control" else target
+            self.wfile.write(page.replace("TARGET", repr(own)).encode() if is_page else b"1")
+
+        def log_message(self, *_: object) -> None:
+            pass
+
+    server = ThreadingHTTPServer(("127.0.0.1", 0), Handler)
+    threading.Thread(target=server.serve_forever, daemon=True).start()
+    try:
+        yield server.server_port
+    finally:
+        server.shutdown()
+        server.server_close()
 
 
 def _quoted(path: str) -> str:

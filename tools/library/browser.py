@@ -74,7 +74,7 @@ class Browser:
         options = Options()
         # Root runs Chromium only without its sandbox; the pages that it visits are ours alone.
         for word in ("--headless=new", "--no-sandbox", "--disable-gpu", "--disable-dev-shm-usage", "--force-device-scale-factor=1",
-                     "--hide-scrollbars", f"--user-data-dir={room}"):
+                     "--hide-scrollbars", "--host-resolver-rules=MAP evil.example 127.0.0.1", f"--user-data-dir={room}"):
             options.add_argument(word)
         options.set_capability("goog:loggingPrefs", {"browser": "ALL"})
         service = Service("/usr/bin/chromedriver", env={**os.environ, "TZ": zone, "LANG": "en_GB.UTF-8"})
