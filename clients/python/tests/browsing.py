@@ -72,6 +72,8 @@ class Served:
     def __exit__(self, kind: Optional[type[BaseException]], fault: Optional[BaseException], trace: Optional[TracebackType]) -> None:
         # The workers first: one may still be about to wake the server.
         self.server.task_dispatcher.shutdown()
+        for channel in list(self.server.active_channels.values()):
+            channel.close()
         self.server.close()
         self._thread.join(10)
         self.source.close()

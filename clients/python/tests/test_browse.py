@@ -320,6 +320,31 @@ class Acting(Case):
 
 
 @unittest.skipUnless(HAS_FLASK, "there is no flask or waitress")
+class OfTheDay(unittest.TestCase):
+    """A journal whose time is the time of day. A page that only looks leaves it as it is."""
+
+    def test_a_look_writes_nothing_and_an_act_has_the_time_of_day(self) -> None:
+        with tempfile.TemporaryDirectory() as room:
+            journal = Path(room, "j")
+            with Store(journal, fsync="sync") as store:
+                store.save("/f", b"one\n")
+                store.save("/f", b"two\n")
+            before = journal.read_bytes()
+            with Served(JournalSource(str(journal))) as page:
+                page.come_in()
+                looks = "/", "/?path=/f&version=2&with=3", "/soon", "/space", "/policy?path=/f&kind=one", "/ask/restore?path=/f&version=2"
+                for address in looks:
+                    self.assertEqual(page.ask(address).status, 200, address)
+                self.assertEqual(journal.read_bytes(), before)
+                began = int(time.time())
+                self.assertEqual(page.act("restore", {"path": "/f", "version": "2"}).status, 303)
+            with Store(journal, read_only=True) as store:
+                made = store.versions("/f")[-1]
+                self.assertEqual((made.number, store.read("/f")), (4, b"one\n"))
+                self.assertLessEqual(began, made.closed)
+
+
+@unittest.skipUnless(HAS_FLASK, "there is no flask or waitress")
 class Looking(unittest.TestCase):
     """A journal that another program writes is shown, and not changed."""
 

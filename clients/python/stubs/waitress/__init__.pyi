@@ -6,6 +6,7 @@ from typing import Any
 class Server:
     effective_port: str
     task_dispatcher: Any
+    active_channels: dict[int, Any]
     def run(self) -> None: ...
     def close(self) -> None: ...
 
