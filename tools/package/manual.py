@@ -96,7 +96,9 @@ def described(words: completions.Words, page: Path, left_out: tuple[str, ...]) -
     yield ".SH OPTIONS\n"
     for it in words.options:
         yield f".TP\n.B {escaped(', '.join(it.words))}{' VALUE' if it.takes_value else ''}\n{escaped(it.about)}.\n"
-    _, *sections = re.split(r"(?m)^(?=## )", page.read_text(encoding="utf-8"))
+    # A manual page has no pictures.
+    text = re.sub(r"(?m)^!\[[^\n]*\n\n\*[^\n]*\n\n", "", page.read_text(encoding="utf-8"))
+    _, *sections = re.split(r"(?m)^(?=## )", text)
     for section in sections:
         if not section.startswith(left_out):
             yield from from_markdown(section)
