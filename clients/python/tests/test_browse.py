@@ -219,6 +219,15 @@ class Acting(Case):
         self.do("undo")
         self.assertEqual(self.store.groups(), [])
 
+    def test_some_files_can_be_kept(self) -> None:
+        boxes = [it for it in Elements(self.page.ask(f"/?path=/&at={NOW + 150}").text).of("input") if it.get("type") == "checkbox"]
+        self.assertEqual([it["value"] for it in boxes], ["/letter", "/plan", "/work"])
+        for words, members in (("files=/letter&files=/work", 2), ("files=/letter", 1), ("files=/letter&files=/letter", 1)):
+            form = self.page.form_of(f"/ask/keep?path=/&at={NOW + 150}&{words}")
+            self.follow(self.page.send("/do/keep", form))
+            self.assertEqual(len(self.store.groups()[-1].members), members)
+        self.assertIn("isn't one of the store", self.text("/ask/keep?path=/&files=/letter&files=letter", 409))
+
     def test_the_moment_of_now_can_be_kept(self) -> None:
         self.do("keep", path="/letter")
         self.assertEqual(self.store.groups()[0].marks, ((NOW + 200, None),))

@@ -297,7 +297,7 @@ class Attacks(unittest.TestCase):
 
     def test_sizes_are_bounded(self) -> None:
         page = self.page
-        self.assertEqual(page.ask("/", Cookie2="x" * 20_000).status, 431)
+        self.assertEqual(page.ask("/", Cookie2="x" * 70_000).status, 431)
         self.assertIn(page.send("/do/undo", {"token": page.door.token, "x": "x" * 100_000}).status, (400, 413))
         for address in (f"/?path=/{'x' * 5000}", f"/?path=/f&version={'9' * 40}", f"/?path=/f&start={'9' * 19}", f"/go?when={'x' * 500}"):
             self.assertEqual(page.ask(address).status, 400, address[:40])

@@ -17,9 +17,10 @@ from .sources import ChangeRefused, Source
 from .trees import find, is_path, told
 from .wording import shown, told_policy
 
-MOST_TOLD, MOST_FILES = 30, 20_000
-FIELDS = frozenset(("path", "at", "version", "label", "days", "group", "policy", "scope"))
-"""What a form may say of an act."""
+# The most lines of a question, files of an act, and acts that can be undone.
+MOST_TOLD, MOST_FILES, MOST_UNDO = 30, 20_000, 50
+FIELDS = frozenset(("path", "at", "version", "label", "days", "group", "policy", "scope", "files"))
+"""What a form may say of an act. `files` are paths with spaces between them, which no spelled path has."""
 Words = tuple[str, ...]
 Asked = Mapping[str, str]
 
@@ -197,7 +198,8 @@ class Acts:
         path, at = _path(asked), _at(asked)
         moment = self._past_moment(at)
         until = _until(asked, now_of(self.store))
-        files = files_below(self.store, path, at)
+        chosen = [_path({"path": it}) for it in asked.get("files", "").split(" ") if it]
+        files = [it for below in chosen or [path] for it in files_below(self.store, below, at)]
         places = self.places.of(self.store)
         here = sorted({number: places[number].path for _, number in files if number in places and places[number].at is None}.values())
         lost = len({number for _, number in files}) - len(here)
@@ -209,7 +211,7 @@ class Acts:
         if lost:
             tells.append(f"{lost} files of then have no name now, and aren't kept by it: bring them back first.")
         return Question(
-            f"Keep {told(path)} as it was at {told_time(moment)}?", tells, f"{len(here)} {lost}",
+            f"Keep {f'{len(chosen)} of ' if chosen else ''}{told(path)} as it was at {told_time(moment)}?", tells, f"{len(here)} {lost}",
             partial(self._mark, group, here, moment, until), {"path": path.decode(), **({} if at is None else {"at": str(at)})},
         )
 

@@ -24,7 +24,7 @@ if TYPE_CHECKING:
 _DESCRIPTION = "Shows the past of a journal or of a mounted folder on a page of this machine, and brings it back."
 _MISSING = "elephant-browse: {}: on Debian, 'apt-get install python3-flask python3-waitress' installs it, for /usr/bin/python3"
 # One page asks for few things at once.
-THREADS, CONNECTIONS, MOST_HEAD, MOST_BODY = 4, 100, 16 << 10, 64 << 10
+THREADS, CONNECTIONS, MOST_HEAD, MOST_BODY = 4, 100, 64 << 10, 64 << 10
 
 
 def _parser() -> argparse.ArgumentParser:

@@ -328,13 +328,14 @@ class Page:
 
     def ask(self, kind: str) -> Answer:
         """Asks what an act would change, by a form that does it."""
+        fields = {name: " ".join(request.args.getlist(name)) for name in request.args if name in FIELDS}
         try:
-            question = self.acts.question(kind, request.args)
+            question = self.acts.question(kind, fields)
         except KeyError:
             abort(404)
         except ChangeRefused as fault:
             return self._cannot(kind, str(fault))
-        return self._asked(kind, question, {name: value for name, value in request.args.items() if name in FIELDS})
+        return self._asked(kind, question, fields)
 
     def _asked(self, kind: str, question: Question, fields: dict[str, str], has_changed: bool = False) -> Answer:
         return render_template(
