@@ -131,6 +131,7 @@ ROWS: dict[type, dict[str, list[Call]]] = {
         "restore": [
             lambda it: it.store.restore("/d/f", 5), lambda it: it.store.restore("/was", 5), lambda it: it.store.restore("/s", 10),
         ],
+        "restore_tree": [lambda it: it.store.restore_tree("/", 5), lambda it: it.store.restore_tree("/d", 5, dry_run=True)],
         "revert": [lambda it: it.store.revert("/d/f", 2)],
         "rmdir": [lambda it: it.store.rmdir("/empty")],
         "save": [
