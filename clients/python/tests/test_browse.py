@@ -328,6 +328,40 @@ class Acting(Case):
         self.assertEqual(answer.status, 409)
 
 
+class Reused(Case):
+    """A name that two files had: what is shown of a moment is of the file that had the name then."""
+
+    def fill(self, store: Store) -> None:
+        store.clock(NOW)
+        store.set_default("/", KeepOne())
+        store.save("/x", b"first\n")
+        store.clock(NOW + 10)
+        store.save("/x", b"second\n")
+        store.pass_()
+        store.clock(NOW + 20)
+        store.rename("/x", "/y")
+        store.save("/x", b"another file\n")
+        store.clock(NOW + 30)
+
+    def test_a_forgotten_moment_of_another_file(self) -> None:
+        text = self.text(f"/?path=/x&at={NOW + 5}")
+        self.assertIn("was forgotten", text)
+        self.assertIn("1 version held", text)
+        self.assertNotIn("Bring it back", text)
+        self.assertIn("another file", self.text("/?path=/x"))
+
+    def test_a_version_of_the_earlier_file_goes_into_the_one_of_now(self) -> None:
+        text = self.text(f"/?path=/x&at={NOW + 15}")
+        self.assertIn("second", text)
+        self.assertIn("Another file has this name now", text)
+        self.assertIn("the newest version", text)  # of the earlier file, which has another name
+        self.assertIn("Another file has the name /x now", self.text(f"/ask/restore?path=/x&at={NOW + 15}&version=3"))
+        self.do("restore", path="/x", at=NOW + 15, version=3)
+        self.assertEqual((self.store.read("/x"), self.store.read("/y")), (b"second\n", b"second\n"))
+        self.do("undo")
+        self.assertEqual((self.store.read("/x"), self.store.read("/y")), (b"another file\n", b"second\n"))
+
+
 @unittest.skipUnless(HAS_FLASK, "there is no flask or waitress")
 class OfTheDay(unittest.TestCase):
     """A journal whose time is the time of day. A page that only looks leaves it as it is."""

@@ -6,7 +6,7 @@ import time
 from collections.abc import Iterable
 from typing import NamedTuple, Optional
 
-from .. import LAST_MOMENT, ElephantError, FileStat, Forgotten, KeepAll, Policy, Version
+from .. import LAST_MOMENT, ElephantError, FileStat, KeepAll, Policy, Version
 from .looking import Follower, LookedAt
 from .trees import find
 from .wording import Outcome, outcome_of
@@ -63,14 +63,20 @@ def now_of(store: LookedAt) -> int:
 
 def live_file(store: LookedAt, path: bytes, at: Optional[int]) -> Optional[FileStat]:
     """Returns the newest state of the file that a path names at a moment, if the path names it now too."""
+    now = find(store, path, None)
+    if not isinstance(now, FileStat) or at is not None and file_number(store, path, at) != now.file:
+        return None
+    return now
+
+
+def file_number(store: LookedAt, path: bytes, at: Optional[int]) -> int:
+    """Returns the number of the file that a path names at a moment, also if what it held then was forgotten; or 0."""
+    parent, _, name = path.rpartition(b"/")
     try:
-        now = find(store, path, None)
-        then = now if at is None else find(store, path, at)
-    except Forgotten:
-        then = now = find(store, path, None)
-    if isinstance(now, FileStat) and isinstance(then, FileStat) and now.file == then.file:
-        return now
-    return None
+        entries, _ = store.names_page(parent or b"/", at, store.place_in(parent or b"/", at, name), 1)
+    except ElephantError:
+        return 0
+    return entries[0].number if entries and entries[0].spelled == name and not entries[0].is_directory else 0
 
 
 def outcomes(store: LookedAt, path: bytes, at: Optional[int], versions: Iterable[Version]) -> dict[int, Outcome]:
@@ -78,13 +84,14 @@ def outcomes(store: LookedAt, path: bytes, at: Optional[int], versions: Iterable
     now = now_of(store)
     if live_file(store, path, at) is not None:
         return {it.number: outcome_of(store.why(path, version=it.number), now) for it in versions}
-    found = find(store, path, at)
-    file = found.file if isinstance(found, FileStat) else 0
+    file = file_number(store, path, at)
     ends = {it.number: int(it.since) for it in store.ahead(LAST_MOMENT) if it.file == file}
     rows = {}
     for it in versions:
         end = ends.get(it.number)
-        if end is None:
+        if it.ended is None:
+            rows[it.number] = Outcome("current", None, "the newest version")
+        elif end is None:
             rows[it.number] = Outcome("kept", None, "kept, if only time passes")
         else:
             rows[it.number] = Outcome("until", end, "kept for a time") if end > now else Outcome("due", end, "may be removed")

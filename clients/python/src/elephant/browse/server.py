@@ -148,7 +148,8 @@ class Page:
     def _forgotten(self, path: bytes, at: Optional[int]) -> Answer:
         part = version_rows(self.store, path, at, self._number("start") or 0)
         common = self.common(path, at)
-        return render_template("file.html", **common, stat=None, part=part, live=live_file(self.store, path, at), chosen=None)
+        live, is_free = live_file(self.store, path, at), find(self.store, path, None) is None
+        return render_template("file.html", **common, stat=None, part=part, live=live, is_free=is_free, chosen=None)
 
     def _folder(self, path: bytes, at: Optional[int], found: DirectoryStat) -> Answer:
         part = folder_rows(self.store, path, at, self._number("start") or 0)
@@ -166,7 +167,7 @@ class Page:
         live = live_file(self.store, path, at)
         return render_template(
             "file.html", **common, stat=found, part=part, live=live, chosen=chosen, policy=wording.told_policy(found.policy),
-            compared=self._compared(path, at, chosen, self._number("with")),
+            is_free=find(self.store, path, None) is None, compared=self._compared(path, at, chosen, self._number("with")),
         )
 
     def _content(self, path: bytes, at: Optional[int], number: int) -> bytes:
