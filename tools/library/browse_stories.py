@@ -20,6 +20,8 @@ from library.browser import PATIENCE, Browser, Wrong, environment, expect, visit
 # How many checks each story is.
 Count = int
 NARROW = 360
+# How long a view may take to be there, and how often it is tried on a busy machine.
+MOST_MILLISECONDS, TRIES = 1000, 10
 
 
 def held(journal: Path, path: str) -> bytes:
@@ -350,14 +352,16 @@ def many(room: Path, files: int, versions: int) -> Count:
         }
         for address, rows in wanted.items():
             best, spent = 1e9, 1e9
-            for _ in range(5):
+            for _ in range(TRIES):
                 before = program.processor_seconds()
                 browser.driver.get(browser.origin + address)
                 spent = min(spent, program.processor_seconds() - before)
                 best = min(best, float(browser.script("return performance.getEntriesByType('navigation')[0].loadEventEnd")))
+                if best < MOST_MILLISECONDS / 2:
+                    break
             found = len(browser.all("main table.rows tbody tr, main table.versions tbody tr"))
             expect(found == rows, f"{address} has {found} rows, not {rows}")
-            expect(best < 1000, f"{address} takes {best:.0f} milliseconds at best")
+            expect(best < MOST_MILLISECONDS, f"{address} takes {best:.0f} milliseconds at best")
             size = int(browser.script("return document.documentElement.outerHTML.length"))
             expect(size < 500_000, f"{address} has {size} signs")
             print(f"browse: {address}: {best:.0f} milliseconds, {1000 * spent:.0f} of the program's processor, {size} signs", flush=True)

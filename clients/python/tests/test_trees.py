@@ -114,6 +114,20 @@ class Trees(unittest.TestCase):
             self.assertEqual((left["/d/file"], left["/d/folder"]), ("a folder has that name now", "a file has that name now"))
             self.assertIn("session", left["/d/open"])
 
+    def test_below_a_file_nothing_is_made(self) -> None:
+        with Store(clock="manual") as store:
+            store.save("/a/b/f", b"f", parents=True)
+            store.clock(10)
+            store.unlink("/a/b/f")
+            store.rmdir("/a/b")
+            store.rmdir("/a")
+            store.save("/a", b"file")
+            for path, left in (("/a/b", ["/a", "/a/b", "/a/b/f"]), ("/a/b/f", ["/a", "/a/b", "/a/b/f"]), ("/a", ["/a", "/a/b", "/a/b/f"])):
+                found = store.restore_tree(path, 5)
+                self.assertEqual((found.steps, [it for it, _ in found.left]), ((), left))
+                self.assertEqual({why for _, why in found.left}, {"a file has that name now"})
+            self.assertEqual(contents(store), {"/a": b"file"})
+
     def test_refusals(self) -> None:
         with Store(clock="manual") as store:
             self.assertRaises(Future, store.restore_tree, "/", 1)

@@ -83,9 +83,7 @@ class _Plan:
         self._add_directory(top)
         then = self._below(top, AT)
         for path, is_directory, _ in then:
-            if self._is_blocked(path):
-                self.left[path] = self.left[path.rpartition(b"/")[0]]
-            elif is_directory:
+            if is_directory:
                 self._add_directory(path)
             else:
                 self._add_file(path)
@@ -94,10 +92,14 @@ class _Plan:
             self.newer += [path for path, _, _ in self._below(top, NOW) if path not in were]
 
     def _is_blocked(self, path: bytes) -> bool:
-        return path.rpartition(b"/")[0] in self.left
+        """Whether a directory above a path can't be brought back. Then neither can the path."""
+        above = path.rpartition(b"/")[0]
+        if above in self.left:
+            self.left[path] = self.left[above]
+        return above in self.left
 
     def _add_directory(self, path: bytes) -> None:
-        if not path:
+        if not path or self._is_blocked(path):
             return
         parent, _, name = path.rpartition(b"/")
         above = self._numbers.get(parent)
@@ -117,6 +119,8 @@ class _Plan:
             self._numbers[path] = None
 
     def _add_file(self, path: bytes) -> None:
+        if self._is_blocked(path):
+            return
         try:
             then = self._row(path, AT)
         except Forgotten:

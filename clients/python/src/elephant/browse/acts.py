@@ -315,6 +315,7 @@ class Acts:
 
     def _note(self, what: str, lines: list[Words], versions: dict[bytes, int]) -> None:
         self.done.append(Undoable(what, lines, versions))
+        del self.done[:-MOST_UNDO]
 
     def _undo(self, _: Asked) -> Question:
         if not self.done:
