@@ -421,9 +421,9 @@ class Saves(Parts):
     def test_lines_that_save_and_restore(self) -> None:
         it = self.mount()
         lines = Lines(self.operations)
-        used = it.store.counts.used
         text, changes = lines.answer("save /new 6f6e65")
         self.assertEqual((text, changes, it.read(b"new")), ("ok version 2\n", [(it.top, b"new")], b"one"))
+        used = it.store.quota.used
         self.assertEqual((used["files"], used["names"], used["versions"], used["handles"]), (1, 1, 2, 0))
         node = it.file(b"new")
         text, changes = lines.answer("save /new 74776f")
@@ -440,9 +440,9 @@ class Saves(Parts):
         self.assertEqual(it.versions(b"new"), [b"", b"one", b"two", b"xwo"])
         moment = int(it.store.now)
         text, changes = lines.answer(f"restore /new {moment}")
-        self.assertEqual((text, it.read(b"new"), dict(used)), ("ok version 5\n", b"xwo", {**used, "versions": 5}))
-        before = dict(used)
-        self.assertEqual(self.mount().store.counts.used, before)
+        before = it.store.quota.used
+        self.assertEqual((text, it.read(b"new"), before["versions"]), ("ok version 5\n", b"xwo", 5))
+        self.assertEqual(self.mount().store.quota.used, before)
 
 
 class Words(Parts):
