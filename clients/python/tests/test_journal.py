@@ -581,6 +581,20 @@ except JournalError:
         with self.open() as store:
             self.assertEqual((state(store), store.recovered), (before, Recovered()))
 
+    def test_sessions_that_ended_before_an_abandoned_one_are_ended(self) -> None:
+        with self.open() as store:
+            store.save("/f", b"old")
+            closed, abandoned, last = (store.session("/f") for _ in range(3))
+            size = self.path.stat().st_size
+            closed.write(b"secret")
+            closed.close()
+            abandoned.abandon()
+            last.abandon()
+            self.assertEqual(self.lines_after(size), [b"close 1", b"abandon 2", b"abandon 3"])
+        with self.open() as store:
+            self.assertEqual(store.recovered, Recovered())
+            self.assertEqual((store.save("/f", b"new"), store.read("/f")), (3, b"new"))
+
     def test_many_threads_share_a_journal(self) -> None:
         faults: list[BaseException] = []
 

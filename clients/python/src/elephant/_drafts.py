@@ -143,14 +143,15 @@ class Drafts(Questions):
             del self._drafts[draft.file]
 
     def _flush(self, draft: Draft, *more: bytes, drops: bool = False) -> None:
-        """Puts the lines of a draft into the journal that it doesn't have yet, and more lines in the same change. `drops`: the draft's
-        lines are dropped instead."""
+        """Puts the lines of a draft into the journal that it doesn't have yet, and more lines in the same change. `drops`: only those that
+        ended its other handles, since nothing needs what was written."""
         lines = draft.lines[:]
         draft.lines.clear()
         if not lines and not more:
             return
         try:
-            self._keep(*(() if drops else lines), *more)
+            kept = [line for line in lines if line.startswith((b"close ", b"abandon "))] if drops else lines
+            self._keep(*kept, *more)
         except JournalError:
             if self._failure is not None:
                 draft.lines[:] = lines
