@@ -338,9 +338,9 @@ class Limits_(Case):
         it.rename(b"h", b"i")
         it.store.group_make("m")
         # Each save makes a file, its empty version and one more; mkdir, two creates, a link and a rename make names.
-        wanted = {"files": 2, "directories": 1, "names": 5, "versions": 4, "handles": 2, "groups": 0, "members": 0, "marks": 0}
+        wanted = {"files": 2, "directories": 1, "names": 5, "versions": 4, "handles": 2, "groups": 1, "members": 0, "marks": 0}
         self.assertEqual(it.store.quota.used, wanted)
-        self.assertEqual(self.mount().store.quota.used, {**wanted, "groups": 1})
+        self.assertEqual(self.mount().store.quota.used, wanted)
 
     def test_a_full_disk_refuses_before_it_changes_anything(self) -> None:
         it = self.mount()

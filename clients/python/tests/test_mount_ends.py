@@ -195,7 +195,8 @@ class Ends(Case):
         for number in range(9):
             it.make(b"f%d" % number)
         self.assertEqual([text.split()[0] for text in it.store.quota.news()], ["90"])
-        self.assertEqual([text.split()[0] for text in self.mount(Limits(files=10)).store.quota.news()], ["90"])
+        it = self.mount(Limits(files=10))
+        self.assertEqual([text.split()[0] for text in it.store.quota.news()], ["90"])
         self.assertIn("files                9         1      90  its end is near\n", it.past.limits().decode())
 
     def test_the_last_of_each_limit_is_for_undo(self) -> None:
@@ -367,9 +368,12 @@ class TakenBack(Case):
             it.store.undelete(b"/" + name)
             self.assertEqual(it.store.read(b"/" + name), b"later " + name)
         list(it.tree.refresh())
-        before = self.shown(it), dict(it.store.quota.used)
+        before, used = self.shown(it), it.store.quota.used
         it = self.mount()
-        self.assertEqual((self.shown(it), it.store.quota.used), before)
+        # A draft that a failing call left open counted as a version until here.
+        drafts = used["versions"] - it.store.quota.used["versions"]
+        self.assertEqual((self.shown(it), {**it.store.quota.used, "versions": used["versions"]}), (before, used))
+        self.assertIn(drafts, (0, 1))
         return failing.has_failed
 
     @staticmethod
@@ -385,7 +389,7 @@ class TakenBack(Case):
 class Failing:
     """A library whose nth call of those that may return a code returns it, and does nothing."""
 
-    NEVER = ("elephant_delete", "elephant_detail", "elephant_now", "elephant_take", "elephant_answer", "elephant_row", "elephant_rung")
+    NEVER = tuple(f"elephant_{it}" for it in ("delete", "detail", "counts", "now", "take", "answer", "row", "rung"))
     OF_LIMITS = tuple(f"elephant_{it}" for it in ("create", "mkdir", "link", "rename", "undelete", "open_write", "open_read", "revert"))
 
     def __init__(self, library: Any, number: int, code: int) -> None:

@@ -145,7 +145,7 @@ class Trees(unittest.TestCase):
                 session.abandon()
 
     def test_the_limits_are_looked_at_first(self) -> None:
-        with Store(clock="manual", limits=Limits(versions=9)) as store:
+        with Store(clock="manual", limits=Limits(versions=11)) as store:
             make(store)
             before = contents(store)
             with self.assertRaises(Full) as raised:

@@ -1,8 +1,8 @@
 //! Each call once on its happy path, and each error that a store can answer.
 
 use elephant::{
-    at, moment, version, Cause, DeletedName, Entry, Error, Fate, Group, History, Limit, Limits, Mark, Node, Options, PassEnd,
-    Policy, Removable, Rung, Stat, Store, Usage, Version, LARGEST_CONTENT,
+    at, moment, version, Cause, Counts, DeletedName, Entry, Error, Fate, Group, History, Limit, Limits, Mark, Node, Options,
+    PassEnd, Policy, Removable, Rung, Stat, Store, Usage, Version, LARGEST_CONTENT,
 };
 use std::io::{self, BufRead, Read, Seek, SeekFrom, Write};
 use std::sync::{Arc, Mutex};

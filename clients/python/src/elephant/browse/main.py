@@ -107,12 +107,12 @@ def serving(source: Source, port: int, announce: Callable[[str], None]) -> tuple
 def _serve(asked: argparse.Namespace, source: Source) -> int:
     """Answers until the program is ended."""
     server, door = serving(source, asked.port, lambda address: print(f"for another browser: {address}", flush=True))
-    print(door.entrance, flush=True)
-    if not asked.no_open and _has_screen():
-        threading.Thread(target=webbrowser.open, args=(door.entrance,), daemon=True).start()
     for number in (signal.SIGTERM, signal.SIGHUP):
         signal.signal(number, _interrupt)
     try:
+        print(door.entrance, flush=True)
+        if not asked.no_open and _has_screen():
+            threading.Thread(target=webbrowser.open, args=(door.entrance,), daemon=True).start()
         server.run()
     except KeyboardInterrupt:
         pass

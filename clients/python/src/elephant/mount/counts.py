@@ -35,9 +35,8 @@ class Counts:
     @property
     def used(self) -> dict[str, int]:
         """How much of each limit is used. Open drafts count as versions."""
-        used: dict[str, int] = self._made()._asdict()
-        del used["events"]
-        return used
+        made = self._made()
+        return {name: int(getattr(made, name)) for name in self.limits._fields[1:]}
 
     def kept_back(self, name: str) -> int:
         """Returns how much of a limit only `undo` may use."""
