@@ -1,14 +1,16 @@
 //! A run over a history: its options, the number of its lines and their tally.
 //! A contract sees it as the state of the run, without the reasons that it wrote.
-ghost use Rattle.std.specs.Prelude.{◌≡◌, ◌+◌, ◌<◌, ◌≤◌, ◌^◌, false, List, ℕ, IfOk};
+ghost use Rattle.std.specs.Prelude.{◌≡◌, ◌+◌, ◌<◌, ◌^◌, false, List, ℕ, IfOk};
 ghost use Rattle.std.specs.Option.{option_map};
 ghost use Rattle.ele_history.specs.Past.{fresh};
 ghost use Rattle.ele_output.specs.Prints.{Prints, outlet};
 ghost use Rattle.ele_runs.specs.RunState.{begun, no_printer, noting};
 ghost use Rattle.ele_runs.specs.Note.{IsNoted, cut_note};
 ghost use Rattle.ele_runs.specs.Block.{IsTextIn};
+ghost use Rattle.ele_runs.specs.Tally.{cut_tallied};
 ghost use Rattle.ele_runs.specs.Written.{HearsNext, PutsBlock};
 
+use crate::line_buffer::LineBuffer;
 use crate::note::{report_why, why_bad, why_cut};
 use crate::said::{Said, hear_kept, last_reply};
 use crate::tally::Tally;
@@ -20,6 +22,7 @@ use ele_run_options::RunOptions;
 use std::alloc::Global;
 use std::io::Write;
 use std::marker::Model;
+use std::mem;
 
 /// A run over a history: its options, the number of its lines and their tally.
 #[derive(Drop)]
@@ -30,18 +33,23 @@ pub(crate) struct Runner<C: Explain> {
     lines: u64,
     has_ended: bool,
     tally: Tally,
+    // For the first bad line.
+    spare: Option<LineBuffer>,
 }
 
 impl<C: Explain> Model for Runner<C> {
-    ghost use Rattle.std.specs.Prelude.{◌≤◌};
+    ghost use Rattle.std.specs.Prelude.{◌≡◌, ◌≤◌, false};
     ghost use Rattle.ele_runs.specs.RunState.{RunState, no_printer};
+    ghost use Rattle.ele_runs.specs.Written.{HasSpare};
 
     ghost Value = { RunState };
 
     ghost view = { λ k. record { options = k.options; past = k.history; number = k.lines; ended = k.has_ended; tally = k.tally; notes = no_printer } };
 
-    // The tally counts at most the lines that were run.
-    ghost invariant = { λ k. (k.tally.bad ≤ k.lines) × (k.tally.refused ≤ k.lines) × (k.tally.stopped ≤ k.lines) };
+    // The tally counts at most the lines that were run. Until the run has ended, the first bad line
+    // finds a buffer.
+    ghost invariant = { λ k. (k.tally.bad ≤ k.lines) × (k.tally.refused ≤ k.lines) × (k.tally.stopped ≤ k.lines)
+        × (k.has_ended ≡ false → HasSpare k.tally k.spare) };
 }
 
 impl<C: Explain> Runner<C> {
@@ -53,6 +61,7 @@ impl<C: Explain> Runner<C> {
     ) -> Result<Runner<C>, NoMemory>
         ensures { IfOk result (λ runner. runner ≡ begun options (fresh limits) no_printer) }
     {
+        let spare = LineBuffer::new(alloc)?;
         let history = History::<C>::new(alloc, limits)?;
         Ok(Runner {
             alloc,
@@ -61,6 +70,7 @@ impl<C: Explain> Runner<C> {
             lines: 0,
             has_ended: false,
             tally: Tally::new(),
+            spare: Some(spare),
         })
     }
 
@@ -85,23 +95,36 @@ impl<C: Explain> Runner<C> {
         self.has_ended
     }
 
-    /// Returns a copy of the tally.
-    pub(crate) fn tally(&self) -> Tally
-        ensures value { result ≡ self.now.tally }
-        ensures few { result.bad ≤ self.now.number }
+    /// Ends the run, and returns the tally, which the run then has no more.
+    pub(crate) fn end(&mut self) -> Tally
+        ensures { result ≡ self.old.tally }
     {
-        self.tally.copy()
+        self.has_ended = true;
+        mem::replace(&mut self.tally, Tally::new())
+    }
+
+    /// Ends the run, and returns the tally with a last line without its line feed.
+    pub(crate) fn end_cut(&mut self, line: &LineBuffer) -> Tally
+        requires goes_on { self.old.ended ≡ false }
+        requires few { self.old.number + 1 < 2 ^ 64 }
+        ensures { result ≡ cut_tallied self.old.tally (self.old.number + 1) line.now }
+    {
+        self.has_ended = true;
+        let mut tally = mem::replace(&mut self.tally, Tally::new());
+        tally.add_cut(self.lines + 1, line, &mut self.spare);
+        tally
     }
 
     // Runs the next line, which is `None` if it is too long, and returns its answer.
     fn hear(&mut self, line: Option<&[u8]>) -> Said
-        requires { self.old.number + 1 < 2 ^ 64 }
+        requires goes_on { self.old.ended ≡ false }
+        requires few { self.old.number + 1 < 2 ^ 64 }
         ensures { HearsNext self.old (option_map (λ line. line.now) line.entry) result self.new }
     {
         let said = hear_kept(self.alloc, self.options, line, &mut self.history);
         let outcome = said.outcome(last_reply(&self.history));
         self.lines += 1;
-        let is_well = self.tally.add(self.lines, line, outcome);
+        let is_well = self.tally.add(self.lines, line, outcome, &mut self.spare);
         self.has_ended = self.options.strict && !is_well;
         said
     }
