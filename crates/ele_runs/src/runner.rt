@@ -1,24 +1,32 @@
 //! A run over a history: its options, the number of its lines and their tally.
 //! A contract sees it as the state of the run, without the reasons that it wrote.
-ghost use Rattle.std.specs.Prelude.{◌≡◌, ◌+◌, ◌<◌, ◌^◌, false, List, ℕ, IfOk};
+ghost use Rattle.std.specs.Prelude.{◌≡◌, ◌+◌, ◌<◌, ◌^◌, false, List, ℕ, IfOk, Some};
 ghost use Rattle.std.specs.Option.{option_map};
 ghost use Rattle.ele_history.specs.Past.{fresh};
+ghost use Rattle.ele_output.specs.Outlet.{Outlet};
 ghost use Rattle.ele_output.specs.Prints.{Prints, outlet};
-ghost use Rattle.ele_runs.specs.RunState.{begun, no_printer, noting};
+ghost use Rattle.ele_runs.specs.RunState.{RunState, begun, counted, no_printer, noting};
 ghost use Rattle.ele_runs.specs.Note.{IsNoted, cut_note};
 ghost use Rattle.ele_runs.specs.Block.{IsTextIn};
+ghost use Rattle.ele_runs.specs.Said.{has_no_reply};
 ghost use Rattle.ele_runs.specs.Tally.{cut_tallied};
-ghost use Rattle.ele_runs.specs.Written.{HearsNext, PutsBlock};
+ghost use Rattle.ele_runs.specs.Written.{HasRead, HearsNext, PutsBlock, event_said};
+ghost use Rattle.ele_script.specs.Spells.{Asks};
+ghost use Rattle.ele_script.specs.declared.reading.Line.TheVariants as asks;
 
 use crate::line_buffer::LineBuffer;
 use crate::note::{report_why, why_bad, why_cut};
-use crate::said::{Said, hear_kept, last_reply};
-use crate::tally::Tally;
+use crate::said::{
+    Said, answer, event_outcome, has_no_reply, hear_kept, last_reply, put_event_answer,
+    put_number_front, record_event,
+};
+use crate::tally::{Outcome, Tally};
 use ele_history::History;
-use ele_model::{Explain, Limits};
+use ele_model::{Event, Explain, Limits, Stop};
 use ele_moment::NoMemory;
 use ele_output::Printer;
 use ele_run_options::RunOptions;
+use ele_script::{Line, LineFault, read_line_in};
 use std::alloc::Global;
 use std::io::Write;
 use std::marker::Model;
@@ -115,6 +123,18 @@ impl<C: Explain> Runner<C> {
         tally
     }
 
+    // Counts the next line, which is `None` if it is too long, by its outcome.
+    fn count(&mut self, line: Option<&[u8]>, outcome: Outcome)
+        requires goes_on { self.old.ended ≡ false }
+        requires few { self.old.number + 1 < 2 ^ 64 }
+        ensures { self.new ≡ counted self.old self.old.past
+            (option_map (λ line. line.now) line.entry) outcome self.old.notes }
+    {
+        self.lines += 1;
+        let is_well = self.tally.add(self.lines, line, outcome, &mut self.spare);
+        self.has_ended = self.options.strict && !is_well;
+    }
+
     // Runs the next line, which is `None` if it is too long, and returns its answer.
     fn hear(&mut self, line: Option<&[u8]>) -> Said
         requires goes_on { self.old.ended ≡ false }
@@ -123,10 +143,45 @@ impl<C: Explain> Runner<C> {
     {
         let said = hear_kept(self.alloc, self.options, line, &mut self.history);
         let outcome = said.outcome(last_reply(&self.history));
-        self.lines += 1;
-        let is_well = self.tally.add(self.lines, line, outcome, &mut self.spare);
-        self.has_ended = self.options.strict && !is_well;
+        self.count(line, outcome);
         said
+    }
+
+    // Runs the next line, which has an answer, by what was read of it, and returns the answer.
+    #[tactic(auto, using(crate::proofs::Blocks::kept_heard))]
+    fn hear_read(&mut self, line: &[u8], read: Result<Line, LineFault>) -> Said
+        requires goes_on { self.old.ended ≡ false }
+        requires few { self.old.number + 1 < 2 ^ 64 }
+        requires heard { has_no_reply self.old.options line.now ≡ false }
+        requires read { HasRead self.old.options.explain line.now read }
+        ensures { HearsNext self.old (Some line.now) result self.new }
+    {
+        let said = answer(
+            self.alloc,
+            self.options.explain,
+            line,
+            read,
+            &mut self.history,
+        );
+        let outcome = said.outcome(last_reply(&self.history));
+        self.count(Some(line), outcome);
+        said
+    }
+
+    // Runs the next line, which asks for the event, and returns the stop, if one came in place of a
+    // reply.
+    #[tactic(auto, using(crate::proofs::Blocks::event_heard))]
+    fn hear_event(&mut self, line: &[u8], event: Event) -> Option<Stop>
+        requires goes_on { self.old.ended ≡ false }
+        requires few { self.old.number + 1 < 2 ^ 64 }
+        requires heard { has_no_reply self.old.options line.now ≡ false }
+        requires asks { Asks self.old.options.explain line.now (asks.Event event) }
+        ensures { HearsNext self.old (Some line.now) (event_said result) self.new }
+    {
+        let stop = record_event(event, &mut self.history);
+        let outcome = event_outcome(stop, last_reply(&self.history));
+        self.count(Some(line), outcome);
+        stop
     }
 
     // Prints why the line is bad, if it is bad and reasons are written.
@@ -175,8 +230,107 @@ impl<C: Explain> Runner<C> {
             (noting self.new (outlet E.contents reasons.new))
             (outlet W.contents printer.old) (outlet W.contents printer.new) }
     {
+        match line {
+            Some(text) if !has_no_reply(self.options, text) => {
+                self.put_line(text, printer, reasons);
+            }
+            _ => self.put_silent(line, printer, reasons),
+        }
+    }
+
+    // The same for a line that has an answer. Most lines ask for an event, and take only the stack
+    // that this needs.
+    fn put_line<W: Write, E: Write>(
+        &mut self,
+        line: &[u8],
+        printer: &mut Printer<'_, W>,
+        reasons: &mut Printer<'_, E>,
+    )
+        requires goes_on { self.old.ended ≡ false }
+        requires few { self.old.number + 1 < 2 ^ 64 }
+        requires heard { has_no_reply self.old.options line.now ≡ false }
+        ensures { PutsBlock (noting self.old (outlet E.contents reasons.old)) (Some line.now)
+            (noting self.new (outlet E.contents reasons.new))
+            (outlet W.contents printer.old) (outlet W.contents printer.new) }
+    {
+        match read_line_in(self.alloc, self.options.explain, line) {
+            Ok(Line::Event(event)) => self.put_event(line, event, printer),
+            read => self.put_read(line, read, printer, reasons),
+        }
+    }
+
+    // The same for a line that asks for the event.
+    fn put_event<W: Write>(&mut self, line: &[u8], event: Event, printer: &mut Printer<'_, W>)
+        requires goes_on { self.old.ended ≡ false }
+        requires few { self.old.number + 1 < 2 ^ 64 }
+        requires heard { has_no_reply self.old.options line.now ≡ false }
+        requires asks { Asks self.old.options.explain line.now (asks.Event event) }
+        ensures { (notes : Outlet) → PutsBlock (noting self.old notes) (Some line.now)
+            (noting self.new notes) (outlet W.contents printer.old) (outlet W.contents printer.new) }
+    {
+        let stop = self.hear_event(line, event);
+        put_number_front(self.options, self.lines, printer);
+        put_event_answer(stop, last_reply(&self.history), printer);
+    }
+
+    // The same for a line that has an answer, by what was read of it.
+    #[inline(never)]
+    fn put_read<W: Write, E: Write>(
+        &mut self,
+        line: &[u8],
+        read: Result<Line, LineFault>,
+        printer: &mut Printer<'_, W>,
+        reasons: &mut Printer<'_, E>,
+    )
+        requires goes_on { self.old.ended ≡ false }
+        requires few { self.old.number + 1 < 2 ^ 64 }
+        requires heard { has_no_reply self.old.options line.now ≡ false }
+        requires read { HasRead self.old.options.explain line.now read }
+        ensures { PutsBlock (noting self.old (outlet E.contents reasons.old)) (Some line.now)
+            (noting self.new (outlet E.contents reasons.new))
+            (outlet W.contents printer.old) (outlet W.contents printer.new) }
+    {
+        let said = self.hear_read(line, read);
+        self.put_said(Some(line), &said, printer, reasons);
+    }
+
+    // The same for a line that is too long or has no answer.
+    #[inline(never)]
+    fn put_silent<W: Write, E: Write>(
+        &mut self,
+        line: Option<&[u8]>,
+        printer: &mut Printer<'_, W>,
+        reasons: &mut Printer<'_, E>,
+    )
+        requires goes_on { self.old.ended ≡ false }
+        requires few { self.old.number + 1 < 2 ^ 64 }
+        ensures { PutsBlock (noting self.old (outlet E.contents reasons.old))
+            (option_map (λ line. line.now) line.entry)
+            (noting self.new (outlet E.contents reasons.new))
+            (outlet W.contents printer.old) (outlet W.contents printer.new) }
+    {
         let said = self.hear(line);
-        self.tell_reason(line, &said, reasons);
+        self.put_said(line, &said, printer, reasons);
+    }
+
+    // Prints the block of the line that was answered last, and why it is bad, if it is bad and reasons
+    // are written.
+    #[inline(never)]
+    fn put_said<W: Write, E: Write>(
+        &self,
+        line: Option<&[u8]>,
+        said: &Said,
+        printer: &mut Printer<'_, W>,
+        reasons: &mut Printer<'_, E>,
+    )
+        ensures { (before : RunState) → before.ended ≡ false
+            → HearsNext before (option_map (λ line. line.now) line.entry) said.now self.now
+            → PutsBlock (noting before (outlet E.contents reasons.old))
+            (option_map (λ line. line.now) line.entry)
+            (noting self.now (outlet E.contents reasons.new))
+            (outlet W.contents printer.old) (outlet W.contents printer.new) }
+    {
+        self.tell_reason(line, said, reasons);
         said.put_front(self.options, self.lines, printer);
         said.put(
             last_reply(&self.history),
