@@ -7,9 +7,8 @@ ghost use Rattle.ele_model.specs.Why.{IsWhy};
 ghost use Rattle.ele_model.specs.declared.refusal.Refusal.TheVariants.{Forgotten};
 ghost use Rattle.ele_output.specs.Prints.{Prints};
 ghost use Rattle.ele_runs.specs.Kept.{Plain, Recorded, last_reply};
-ghost use Rattle.ele_runs.specs.Said.{Explains, HearsKept, IsLastText, IsText, MayMean, Records, SaysAhead, has_no_reply, said_front};
+ghost use Rattle.ele_runs.specs.Said.{Explains, HearsKept, IsLastText, IsText, MayMean, SaysAhead, has_no_reply, said_front};
 ghost use Rattle.ele_runs.specs.Tally.{outcome_for};
-ghost use Rattle.ele_runs.specs.Written.{HasRead, IsEventText, event_said, number_front};
 ghost use Rattle.ele_script.specs.declared.reading.Question.TheVariants as question;
 
 use crate::keep::Keep;
@@ -19,7 +18,7 @@ use ele_audit::{
     removed_version,
 };
 use ele_history::History;
-use ele_model::{Entry, Event, Explain, Fate, KeyList, Moment, PassEnd, Refusal, Reply, Stop};
+use ele_model::{Entry, Explain, Fate, KeyList, Moment, PassEnd, Refusal, Reply, Stop};
 use ele_output::Printer;
 use ele_path::TaggedPath;
 use ele_printer::{
@@ -81,8 +80,8 @@ pub fn hear_kept<K: Keep>(
     hear(alloc, options.explain, line, keeper)
 }
 
-/// Whether a line gets no answer: an empty one, or a remark that is passed over.
-pub(crate) fn has_no_reply(options: RunOptions, line: &[u8]) -> bool
+// Whether a line gets no answer: an empty one, or a remark that is passed over.
+fn has_no_reply(options: RunOptions, line: &[u8]) -> bool
     ensures { result ≡ has_no_reply options line.now }
 {
     match line.first() {
@@ -95,22 +94,7 @@ pub(crate) fn has_no_reply(options: RunOptions, line: &[u8]) -> bool
 fn hear<K: Keep>(alloc: Global, explains: bool, line: &[u8], keeper: &mut K) -> Said
     ensures { MayMean explains (K.kept keeper.old) line.now result (K.kept keeper.new) }
 {
-    let read = read_line_in(alloc, explains, line);
-    answer(alloc, explains, line, read, keeper)
-}
-
-/// Answers a line that is neither empty nor too long by what was read of it.
-pub(crate) fn answer<K: Keep>(
-    alloc: Global,
-    explains: bool,
-    line: &[u8],
-    read: Result<Line, LineFault>,
-    keeper: &mut K,
-) -> Said
-    requires { HasRead explains line.now read }
-    ensures { MayMean explains (K.kept keeper.old) line.now result (K.kept keeper.new) }
-{
-    match read {
+    match read_line_in(alloc, explains, line) {
         Ok(Line::Event(event)) => keeper.hear_event(event),
         Ok(Line::Pass(budget)) => Said::Passed(keeper.hear_pass(budget)),
         Ok(Line::Trim) => keeper.hear_trim(),
@@ -126,56 +110,6 @@ pub(crate) fn answer<K: Keep>(
             LineFault::NoMemory => Said::Stopped(Stop::NoMemory),
             _ => Said::Bad(fault),
         },
-    }
-}
-
-/// Answers an event of a history. Returns the stop, if one came in place of a reply.
-#[tactic(auto, using(crate::proofs::Questions::stops_event))]
-pub(crate) fn record_event<C: Explain>(event: Event, history: &mut History<C>) -> Option<Stop>
-    ensures { Records (Recorded history.old) event (event_said result) (Recorded history.new) }
-{
-    match history.record(event) {
-        Ok(_) => None,
-        Err(stop) => Some(stop),
-    }
-}
-
-/// Returns the outcome of an event, with the last reply that is kept.
-pub(crate) fn event_outcome(stop: Option<Stop>, last: Option<&Reply>) -> Outcome
-    ensures { result ≡ outcome_for (option_copied last.entry) (event_said stop) }
-{
-    match (stop, last) {
-        (Some(_), _) => Outcome::Stopped,
-        (None, Some(Reply::Refused(_))) => Outcome::Refused,
-        (None, _) => Outcome::Well,
-    }
-}
-
-/// Puts the text of the answer to an event, which is the last reply that is kept, or the stop.
-pub(crate) fn put_event_answer<W: Write>(
-    stop: Option<Stop>,
-    last: Option<&Reply>,
-    printer: &mut Printer<'_, W>,
-)
-    ensures { (text : List ℕ) × IsEventText (option_copied last.entry) stop text
-        × Prints W.contents printer.old printer.new text }
-{
-    match stop {
-        None => put_last(last, printer),
-        Some(stop) => put_stop(stop, printer),
-    }
-}
-
-/// Puts the number of a line that has an answer, if lines are numbered.
-pub(crate) fn put_number_front<W: Write>(
-    options: RunOptions,
-    number: u64,
-    printer: &mut Printer<'_, W>,
-)
-    ensures { Prints W.contents printer.old printer.new (number_front options number) }
-{
-    if options.numbers {
-        put_in_front(number, printer);
     }
 }
 
@@ -281,7 +215,8 @@ impl Said {
     {
         match self {
             Said::Nothing => {}
-            _ => put_number_front(options, number, printer),
+            _ if options.numbers => put_in_front(number, printer),
+            _ => {}
         }
     }
 

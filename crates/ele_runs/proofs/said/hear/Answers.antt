@@ -1,5 +1,5 @@
 use Rattle.ele_runs.proofs.Blocks.{hears_event, hears_fault, hears_question, hears_trim}
-use Rattle.ele_runs.proofs.said.answer.Goals as goal
+use Rattle.ele_runs.proofs.said.hear.Goals as goal
 
 pub returns-in-Ok-Event : goal.returns-in-Ok-Event
 returns-in-Ok-Event g c = hears_event _ _ _ c.in-Ok-Event.event _ (rw (← c.in-Ok-Event.field-0-is) c.in-Ok-Event.ensures.found) c.hear_event.ensures
