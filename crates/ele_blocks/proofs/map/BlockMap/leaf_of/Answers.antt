@@ -1,5 +1,0 @@
-use Rattle.ele_blocks.proofs.Lemmas.{arith, get_or, leaf_is, leaf_owned, leaf_read, ◌/◌}
-use Rattle.ele_blocks.proofs.map.BlockMap.leaf_of.Goals as goal
-
-pub returns-clause-owned : goal.returns-clause-owned
-returns-clause-owned c = rw (← c.as_slice.ensures) at (leaf_owned c.args.store.now c.args.self.now c.requires.lives c.args.slot (get_or c.args.self.now.leaves (c.args.slot / 16) 0) c.requires.within (leaf_read c.args.store.now c.args.self.now c.requires.lives c.args.slot c.requires.within))
