@@ -25,7 +25,7 @@ impl Store {
         if row.is_directory != 0 {
             return Ok(Stat::Directory { directory: row.id, policy });
         }
-        Ok(Stat::File { file: row.id, version: Version::from(&row), policy })
+        Ok(Stat::File { file: row.id, version: Version::of_stat_row(&row), policy })
     }
 
     fn policy_of(&self, row: &sys::elephant_stat_row) -> Result<Policy, Error> {
@@ -56,7 +56,7 @@ impl Store {
         read_rows(rows, |index| {
             // SAFETY: see `call`.
             let row: sys::elephant_version_row = self.row(|e, row| unsafe { sys::elephant_row_version(e, index, row) })?;
-            Ok(Version::from(&row))
+            Ok(Version::of_row(&row))
         })
     }
 
@@ -154,7 +154,7 @@ impl Store {
     pub fn counts(&self) -> Counts {
         // SAFETY: see `call`. An open store has no error here.
         let row: sys::elephant_counts_row = self.row(|e, row| unsafe { sys::elephant_counts(e, row) }).unwrap_or_default();
-        Counts::from(&row)
+        Counts::of_row(&row)
     }
 
     /// Returns why a version is held, or due. In a store with a history it also returns when and why a version was removed, if you ask

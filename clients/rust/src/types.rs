@@ -116,8 +116,8 @@ pub struct Counts {
     pub marks: u64,
 }
 
-impl From<&sys::elephant_counts_row> for Counts {
-    fn from(row: &sys::elephant_counts_row) -> Counts {
+impl Counts {
+    pub(crate) fn of_row(row: &sys::elephant_counts_row) -> Counts {
         Counts {
             events: row.events,
             files: row.files,
@@ -215,14 +215,12 @@ pub struct Version {
     pub length: u64,
 }
 
-impl From<&sys::elephant_version_row> for Version {
-    fn from(row: &sys::elephant_version_row) -> Version {
+impl Version {
+    pub(crate) fn of_row(row: &sys::elephant_version_row) -> Version {
         Version { number: row.number, opened: row.opened, closed: row.closed, ended: unless_never(row.ended), length: row.length }
     }
-}
 
-impl From<&sys::elephant_stat_row> for Version {
-    fn from(row: &sys::elephant_stat_row) -> Version {
+    pub(crate) fn of_stat_row(row: &sys::elephant_stat_row) -> Version {
         Version {
             number: row.version,
             opened: row.opened,
