@@ -79,11 +79,10 @@ fn each_handle_is_closed_once() {
     entries(3);
     drop(store.reader("/f").unwrap());
     entries(5);
-    // A session first asks for the file's number.
     assert_eq!(store.session("/f").unwrap().close(), Ok(None));
-    entries(8);
+    entries(7);
     drop(store.session("/f").unwrap());
-    entries(11);
+    entries(9);
 }
 
 #[test]
