@@ -79,7 +79,7 @@ enum elephant_code {
     ELEPHANT_EXISTS = 8,           /* the name is in use */
     ELEPHANT_NOT_EMPTY = 9,        /* the directory has names */
     ELEPHANT_INTO_ITSELF = 10,     /* the directory would be moved below itself */
-    ELEPHANT_IS_ROOT = 11,         /* the root can't be made, moved or removed */
+    ELEPHANT_IS_ROOT = 11,         /* the root can't be made, moved or deleted */
     ELEPHANT_FUTURE = 12,          /* the moment is later than now */
     ELEPHANT_FORGOTTEN = 13,       /* the version was removed; detail: the greatest held number before it, or 0 */
     ELEPHANT_NO_VERSION = 14,      /* no version has had the number yet */

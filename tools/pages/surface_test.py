@@ -25,7 +25,7 @@ class Planted(NamedTuple):
 # A fault of a file that is printed or compared.
 OF_FILES = [
     Planted(HEADER, "    ELEPHANT_NO_ENTRY = 5,", "    ELEPHANT_NO_ENTRY = 6,", (HEADER,)),
-    Planted(HEADER, "    ELEPHANT_IS_ROOT = 11,         /* the root can't be made, moved or removed */\n", "", (HEADER,)),
+    Planted(HEADER, "    ELEPHANT_IS_ROOT = 11,         /* the root can't be made, moved or deleted */\n", "", (HEADER,)),
     Planted(HEADER, "    ELEPHANT_LIMIT_MARKS = 8\n", "    ELEPHANT_LIMIT_MARKS = 8,\n    ELEPHANT_LIMIT_PINS = 9\n", (HEADER,)),
     Planted(HEADER, "at most 200,000", "at most 200,001", (HEADER,)),
     Planted(HEADER, "ELEPHANT_KEEP_ALL = 1", "ELEPHANT_KEEP_ALL = 2", ("ELEPHANT_KEEP_ALL",)),
@@ -48,7 +48,7 @@ OF_FILES = [
     Planted(HEADER, "#define ELEPHANT_NEVER UINT64_MAX", "#define ELEPHANT_NEVER 0", ("ELEPHANT_NEVER",)),
     Planted(rust.SYS, "pub const ELEPHANT_NO_ENTRY: i32 = 5;", "pub const ELEPHANT_NO_ENTRY: i32 = 6;", (rust.SYS,)),
     Planted(rust.SYS, "pub fn elephant_tick(e: *mut elephant, seconds: u64)", "pub fn elephant_tick(e: *mut elephant)", (rust.SYS,)),
-    Planted(rust.ERRORS, "    IsRoot = ELEPHANT_IS_ROOT, \"the root can't be made, moved or removed\";\n", "", (rust.ERRORS,)),
+    Planted(rust.ERRORS, "    IsRoot = ELEPHANT_IS_ROOT, \"the root can't be made, moved or deleted\";\n", "", (rust.ERRORS,)),
     Planted(rust.ERRORS, "    /// Marks ever made.\n", "    /// Pins ever made.\n    Pins,\n    /// Marks ever made.\n", (rust.ERRORS,)),
     Planted(python.LIBRARY, '"KeyRow", "since file number"', '"KeyRow", "file since number"', (python.LIBRARY,)),
     Planted(python.LIBRARY, '"tick": "number",', '"tick": "out",', (python.LIBRARY,)),

@@ -43,7 +43,7 @@ const char *elephant_code_text(int32_t code) {
     case 8: return "Exists: the name is in use";
     case 9: return "NotEmpty: the directory has names";
     case 10: return "IntoItself: the directory would be moved below itself";
-    case 11: return "IsRoot: the root can't be made, moved or removed";
+    case 11: return "IsRoot: the root can't be made, moved or deleted";
     case 12: return "Future: the moment is later than now";
     case 13: return "Forgotten: the version was removed";
     case 14: return "NoVersion: no version has had the number yet";

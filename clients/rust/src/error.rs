@@ -147,7 +147,7 @@ errors! {
     Exists = ELEPHANT_EXISTS, "the name is in use";
     NotEmpty = ELEPHANT_NOT_EMPTY, "the directory has names";
     IntoItself = ELEPHANT_INTO_ITSELF, "the directory would be moved below itself";
-    IsRoot = ELEPHANT_IS_ROOT, "the root can't be made, moved or removed";
+    IsRoot = ELEPHANT_IS_ROOT, "the root can't be made, moved or deleted";
     Future = ELEPHANT_FUTURE, "the moment is later than now";
     NoVersion = ELEPHANT_NO_VERSION, "no version has had the number yet";
     NoHandle = ELEPHANT_NO_HANDLE, "no open handle has the number";

@@ -60,7 +60,7 @@ impl Store {
         Ok(made)
     }
 
-    /// Removes the name of a directory that has no live name in it.
+    /// Deletes the name of a directory that has no live name in it.
     ///
     /// # Errors
     /// [`Error::NotEmpty`], [`Error::IsRoot`].
@@ -88,7 +88,7 @@ impl Store {
         made.map_err(|error| self.path_error(error, from, to))
     }
 
-    /// Removes a name of a file. With its last name its current version ends.
+    /// Deletes a name of a file. With its last name its current version ends.
     ///
     /// # Errors
     /// [`Error::IsDirectory`], [`Error::IsRoot`].

@@ -13,7 +13,7 @@ use Rattle.ele_model.specs.CountsOf.{counts_of}
 use Rattle.ele_model.specs.declared.fate.Fate.TheVariants as fate
 use Rattle.ele_model.specs.declared.reply.Reply.{Reply}
 use Rattle.ele_model.specs.declared.reply.Reply.TheVariants as reply
-use Rattle.ele_model.specs.declared.rows.DeadName.{DeadName}
+use Rattle.ele_model.specs.declared.rows.DeletedName.{DeletedName}
 use Rattle.ele_model.specs.declared.rows.GroupRow.{GroupRow}
 use Rattle.ele_model.specs.declared.rows.Target.{Target}
 use Rattle.ele_policy.specs.declared.policy.Policy.{Policy}
@@ -150,7 +150,7 @@ content_in other = Err (pos 68)
 -- the bytes of a row's name
 abbrev pub bytes_in : Option Reply → ℕ → Result (List ℕ) ℤ
 bytes_in (Some (reply.NameList names)) index = row_in (λ (named : List ℕ × Target). named.0) names index
-bytes_in (Some (reply.RestoreList names)) index = row_in (λ (dead : DeadName). dead.name) names index
+bytes_in (Some (reply.RestoreList names)) index = row_in (λ (dead : DeletedName). dead.name) names index
 bytes_in (Some (reply.GroupList groups)) index = row_in (λ (group : GroupRow). group.name) groups index
 bytes_in other index = Err (pos 68)
 

@@ -7,7 +7,7 @@ use Rattle.ele_model.specs.declared.fate.Fate.{Fate}
 use Rattle.ele_model.specs.declared.fate.Fate.TheVariants as fate
 use Rattle.ele_model.specs.declared.pass.PassEnd.{PassEnd}
 use Rattle.ele_model.specs.declared.pass.PassEnd.TheVariants.{Finished, Budget, Stopped}
-use Rattle.ele_model.specs.declared.rows.DeadName.{DeadName}
+use Rattle.ele_model.specs.declared.rows.DeletedName.{DeletedName}
 use Rattle.ele_model.specs.declared.rows.DirectoryRow.{DirectoryRow}
 use Rattle.ele_model.specs.declared.rows.FileStat.{FileStat}
 use Rattle.ele_model.specs.declared.rows.GroupRow.{GroupRow}
@@ -73,7 +73,7 @@ target_numbers directory name (target.Directory id) = record zeros { first = dir
 abbrev pub named_numbers : List ℕ × Target → Numbers
 named_numbers named = target_numbers 0 named.0 named.1
 
-abbrev pub dead_numbers : DeadName → Numbers
+abbrev pub dead_numbers : DeletedName → Numbers
 dead_numbers dead = target_numbers dead.directory dead.name dead.target
 
 -- a group: how many bytes its name has, members, marks

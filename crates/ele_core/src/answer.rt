@@ -141,7 +141,7 @@ impl Core {
             Event::Stat(tagged) => self.stat_reply(tagged),
             Event::Versions(at) => self.versions(at).map(Reply::Rows),
             Event::List(at) => self.list(at).map(Reply::NameList),
-            Event::Restorable => Ok(Reply::RestoreList(self.dead_names()?)),
+            Event::Restorable => Ok(Reply::RestoreList(self.deleted_names()?)),
             Event::Due => Ok(Reply::DueList(self.due_keys()?)),
             Event::UsageAll => Ok(self.usage_reply()?),
             Event::GroupsAll => Ok(Reply::GroupList(self.groups()?)),

@@ -14,7 +14,7 @@ impl Core {
     /// Removes the first due version, and returns its key. It takes no memory.
     /// Cost: the logarithms of queued keys, files and the file's versions, and the version's
     /// blocks; rarely the file's list of chunks moves. If the file is dropped with its last
-    /// version, the time also grows with its dead names, its groups and the later files.
+    /// version, the time also grows with its deleted names, its groups and the later files.
     pub fn clean_one(&mut self) -> Option<Key>
         ensures step { (removed result, self.new.world) ≡ clean_step self.old.world }
         ensures read { CleanReads (removed result) self.new.rows_read }

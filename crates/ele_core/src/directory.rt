@@ -20,7 +20,7 @@ impl Core {
         ele_events::make_dir(&mut self.state, path)
     }
 
-    /// Removes the name of the empty directory at the path. Refused: `IsRoot`, `NoEntry`,
+    /// Deletes the name of the empty directory at the path. Refused: `IsRoot`, `NoEntry`,
     /// `NotDirectory`, `NotEmpty`.
     /// Cost: grows with the path's names, each looked up by hashing.
     #[tactic(auto, using(crate::proofs::Reached::does_at_once))]

@@ -31,11 +31,12 @@ mod version;
 
 pub use ele_events::{Halt, Stat};
 pub use ele_model::{
-    Boxed, ByteList, Cause, Cell, Counts, DeadName, DeadNameList, DirId, DirectoryRow, DraftRow,
-    Event, Fate, FileId, FileRow, FileStat, Flat, GroupList, GroupRow, Handle, HandleRow, Key,
-    KeyList, Kind, Ladder, LimitNumbers, Limits, ListOf, MarkRow, Moment, Name, NameList, NameRow,
-    NoMemory, PassEnd, Path, PathAt, Policy, Reads, Refusal, Reply, Rows, Source, StampsList, Stop,
-    Tag, TaggedPath, Target, Usage, VersionInfo, VersionNo, VersionRow, Which, laws,
+    Boxed, ByteList, Cause, Cell, Counts, DeletedName, DeletedNameList, DirId, DirectoryRow,
+    DraftRow, Event, Fate, FileId, FileRow, FileStat, Flat, GroupList, GroupRow, Handle, HandleRow,
+    Key, KeyList, Kind, Ladder, LimitNumbers, Limits, ListOf, MarkRow, Moment, Name, NameList,
+    NameRow, NoMemory, PassEnd, Path, PathAt, Policy, Reads, Refusal, Reply, Rows, Source,
+    StampsList, Stop, Tag, TaggedPath, Target, Usage, VersionInfo, VersionNo, VersionRow, Which,
+    laws,
 };
 pub use ele_moment::{BadMoment, BadName};
 pub use ele_path::{PathAtFault, PathFault};

@@ -30,7 +30,7 @@ impl Core {
         ele_events::link(&mut self.state, from, to)
     }
 
-    /// Removes the name of the file at the path; with the last name the current version ends.
+    /// Deletes the name of the file at the path; with the last name the current version ends.
     /// Refused: `IsRoot`, `NoEntry`, `NotDirectory`, `IsDirectory`.
     /// Cost: grows with the path's names, each hashed; a last name also takes, for up to 16
     /// versions, the file's groups and the logarithms of files, versions and queued keys. Its
@@ -53,7 +53,7 @@ impl Core {
         ele_events::rename(&mut self.state, from, to)
     }
 
-    /// Restores the dead name at the path, with the file or directory that it last had. A file
+    /// Restores the deleted name at the path, with the file or directory that it last had. A file
     /// without a live name gets a version with the content of its last one, and `undelete` returns
     /// the number of that version. Refused: as `create`, `NotRestorable`, `Drafting`.
     /// Cost: amortized, grows with the path's names and the logarithms of older name rows, files

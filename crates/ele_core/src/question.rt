@@ -12,7 +12,7 @@ ghost use Rattle.ele_model.specs.declared.reply.Reply.TheVariants.{Bytes, NameLi
 use crate::Core;
 use ele_events::{Halt, Stat};
 use ele_model::{
-    ByteList, Counts, DeadNameList, DirId, FileId, GroupList, Key, KeyList, Name, NameList,
+    ByteList, Counts, DeletedNameList, DirId, FileId, GroupList, Key, KeyList, Name, NameList,
     NoMemory, PathAt, Refusal, Source, StampsList, TaggedPath, Target, Usage, VersionNo,
     triples_of,
 };
@@ -87,20 +87,20 @@ impl Core {
     /// order of directory and then of the bytes of the name.
     ///
     /// `NoMemory` if memory is refused.
-    /// Cost: that of `dead_names`, and a second copy of the names.
+    /// Cost: that of `deleted_names`, and a second copy of the names.
     pub fn restorable(&self) -> Result<Vec<(DirId, Name, Target)>, NoMemory>
         ensures { IfOk result (λ names. names.items ≡ map triple_of (restorable self.now.world)) }
     {
-        triples_of(&self.dead_names()?)
+        triples_of(&self.deleted_names()?)
     }
 
     /// Returns the names of `restorable`, as the list that its reply holds.
     ///
     /// `NoMemory` if memory is refused.
-    /// Cost: grows with all names ever made, a sort of the dead ones, and for each of them the
-    /// logarithms of files and versions; takes memory for the dead names.
+    /// Cost: grows with all names ever made, a sort of the deleted ones, and for each of them the
+    /// logarithms of files and versions; takes memory for the deleted names.
     #[inline(never)]
-    pub fn dead_names(&self) -> Result<DeadNameList, NoMemory>
+    pub fn deleted_names(&self) -> Result<DeletedNameList, NoMemory>
         ensures { IfOk result (λ names. names ≡ restorable self.now.world) }
     {
         self.state.restorable()

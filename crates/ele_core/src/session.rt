@@ -70,7 +70,7 @@ impl Core {
     }
 
     /// Ends the handle, which writes a file, and makes no version: if no other handle writes the
-    /// file, its draft is removed with all that was written to it. A file without live name,
+    /// file, its draft is discarded with all that was written to it. A file without live name,
     /// version and draft is then dropped. It takes no memory. Refused: `NoHandle`, `NotWriter`.
     /// Cost: that of a `close` that drops an unchanged draft.
     #[tactic(auto, using(crate::proofs::Reached::does_at_once))]

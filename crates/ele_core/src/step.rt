@@ -1,7 +1,7 @@
 //! A core runs events, and can be audited. Generic code over the traits sees it as its flat world.
 use crate::Core;
 use ele_model::{
-    Audit, DeadNameList, Event, Flat, KeyList, Limits, Moment, NoMemory, Reply, Step, Usage,
+    Audit, DeletedNameList, Event, Flat, KeyList, Limits, Moment, NoMemory, Reply, Step, Usage,
 };
 use std::alloc::Global;
 
@@ -30,8 +30,8 @@ impl Audit for Core {
         Core::due_keys(self)
     }
 
-    fn dead_names(&self) -> Result<DeadNameList, NoMemory> {
-        Core::dead_names(self)
+    fn deleted_names(&self) -> Result<DeletedNameList, NoMemory> {
+        Core::deleted_names(self)
     }
 
     fn usage(&self) -> [Usage; 4] {

@@ -20,7 +20,7 @@ pub fn make_dir(state: &mut State, path: &Path) -> Result<DirId, Halt>
     Ok(state.make_directory(directory, name)?)
 }
 
-/// Removes the name of the empty directory at the path.
+/// Deletes the name of the empty directory at the path.
 #[inline(never)]
 pub fn remove_dir(state: &mut State, path: &Path) -> Result<(), Refusal>
     ensures { DoesAtOnce done state.old.world (event.RemoveDir path.now) result state.new.world }

@@ -31,7 +31,7 @@ pub fn link(state: &mut State, from: &Path, to: &Path) -> Result<(), Halt>
     Ok(state.add_name(directory, name, Target::File(file))?)
 }
 
-/// Removes the name of the file at the path; with the last name the current version ends.
+/// Deletes the name of the file at the path; with the last name the current version ends.
 #[inline(never)]
 pub fn unlink(state: &mut State, path: &Path) -> Result<(), Halt>
     ensures { Does done state.old.world (event.Unlink path.now) result state.new.world }
@@ -57,9 +57,9 @@ pub fn rename(state: &mut State, from: &Path, to: &Path) -> Result<(), Halt>
     Ok(state.move_name(&old, &new, &found)?)
 }
 
-/// Restores the dead name at the path, with the file or directory that it last had. A file without
-/// a live name gets a version with the content of its last one, and `undelete` returns the number
-/// of that version.
+/// Restores the deleted name at the path, with the file or directory that it last had. A file
+/// without a live name gets a version with the content of its last one, and `undelete` returns the
+/// number of that version.
 #[inline(never)]
 pub fn undelete(state: &mut State, path: &Path) -> Result<Option<VersionNo>, Halt>
     ensures { Does revived state.old.world (event.Undelete path.now) result state.new.world }

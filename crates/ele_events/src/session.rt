@@ -69,7 +69,7 @@ pub fn close(state: &mut State, handle: Handle) -> Result<Option<VersionNo>, Hal
 }
 
 /// Ends the handle, which writes a file, and makes no version. If no other handle writes the file,
-/// its draft is removed.
+/// its draft is discarded.
 #[inline(never)]
 pub fn abandon(state: &mut State, handle: Handle) -> Result<(), Refusal>
     ensures { DoesAtOnce done state.old.world (event.Abandon handle) result state.new.world }

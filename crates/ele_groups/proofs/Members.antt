@@ -3,7 +3,7 @@ use Rattle.ele_groups.proofs.Basics.{◌≡◌, ℕ, ◌==◌, true, false, ◌&
 use Rattle.ele_groups.proofs.Words.{Membership, Memberships, has, memberships_of}
 use Rattle.ele_groups.proofs.Named.{own_name, same_name}
 
--- one name removed
+-- one name deleted
 pub any_without : (name n : List ℕ) (these : List Membership) → list_any (λ other. bytes_eq other.name n) (filter (λ other. not (bytes_eq other.name name)) these) ≡ (list_any (λ other. bytes_eq other.name n) these && not (bytes_eq name n))
 any_without name n [] = refl
 any_without name n (x ∷ xs) = grind (arith, nat_tests, same_name x.name name, same_name x.name n, same_name name n, own_name n, any_without name n xs)

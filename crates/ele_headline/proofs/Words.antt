@@ -5,7 +5,7 @@ pub use Rattle.ele_model.specs.declared.event.Source.TheVariants.{Of, Tagged}
 pub use Rattle.ele_model.specs.declared.refusal.Refusal.{Refusal}
 pub use Rattle.ele_model.specs.declared.reply.Reply.{Reply}
 pub use Rattle.ele_model.specs.declared.reply.Reply.TheVariants.{Bytes, Nothing, Refused}
-pub use Rattle.ele_model.specs.declared.rows.DeadName.{DeadName}
+pub use Rattle.ele_model.specs.declared.rows.DeletedName.{DeletedName}
 pub use Rattle.ele_model.specs.declared.rows.FileRow.{FileRow}
 pub use Rattle.ele_model.specs.declared.rows.NameRow.{NameRow}
 pub use Rattle.ele_model.specs.declared.rows.Reads.TheVariants.{Version}

@@ -5,12 +5,12 @@ use Rattle.std.specs.List.Sorted.{IsStrictlySortedBy}
 use Rattle.std.specs.Option.{option_map}
 use Rattle.std.specs.Str.{bytes_eq}
 use Rattle.ele_lists.specs.Last.{passing}
-use Rattle.ele_model.specs.declared.rows.DeadName.{DeadName}
+use Rattle.ele_model.specs.declared.rows.DeletedName.{DeletedName}
 use Rattle.ele_model.specs.NameRows.{last_dead}
 use Rattle.ele_model.specs.Restorable.{name_cmp, may_return, restorable}
 use Rattle.ele_model.specs.World.{World}
 
-abbrev pub is_dead_name : ℕ → List ℕ → DeadName → Bool
+abbrev pub is_dead_name : ℕ → List ℕ → DeletedName → Bool
 is_dead_name directory name dead = (dead.directory == directory) && bytes_eq dead.name name
 
 pub record ListsRestorable (w : World) : Type 0 where

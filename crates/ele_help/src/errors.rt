@@ -142,7 +142,7 @@ fn meaning_of(refusal: &Refusal) -> &'static str {
         }
         Refusal::NotEmpty => "the directory has names. Remove or move them first",
         Refusal::IntoItself => { "the directory would be moved below itself. Choose another place" }
-        Refusal::IsRoot => { "the root can't be made, moved or removed. Give a path with a name" }
+        Refusal::IsRoot => { "the root can't be made, moved or deleted. Give a path with a name" }
         Refusal::Future => "the moment is later than now. Ask for now or earlier",
         Refusal::Forgotten(_) => {
             "the version was removed. The word after it is an older one that you can read, or -"

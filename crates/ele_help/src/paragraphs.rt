@@ -15,7 +15,7 @@ pub(crate) static PARAGRAPHS: [(&str, &str); 43] = [
     ),
     // abandon
     (
-        "Ends a handle that writes. If it was the last one that writes the file, the\ndraft is removed and makes no version. NotWriter if the handle is one that\nreads: see 'close'.",
+        "Ends a handle that writes. If it was the last one that writes the file, the\ndraft is discarded and makes no version. NotWriter if the handle is one that\nreads: see 'close'.",
         "\nExample:\n    create /f        ok file 1\n    open write /f    ok handle 1\n    write 1 0 61     ok done\n    abandon 1        ok done\n    read /f          ok bytes 0 -\n",
     ),
     // clock
@@ -150,12 +150,12 @@ pub(crate) static PARAGRAPHS: [(&str, &str); 43] = [
     ),
     // rmdir
     (
-        "Removes the name of a directory. NotEmpty if something in it has a name.",
+        "Deletes the name of a directory. NotEmpty if something in it has a name.",
         "\nExample:\n    mkdir /d    ok directory 1\n    rmdir /d    ok done\n",
     ),
     // restorable
     (
-        "Lists the removed names that 'undelete' can restore. It is never refused.",
+        "Lists the deleted names that 'undelete' can restore. It is never refused.",
         "\nExample:\n    create /f     ok file 1\n    unlink /f     ok done\n    restorable    ok restorable 1\n                  - 0 f file 1\n",
     ),
     // save
@@ -185,7 +185,7 @@ pub(crate) static PARAGRAPHS: [(&str, &str); 43] = [
     ),
     // unlink
     (
-        "Removes a name of a file. With the last name its current version ends.\n'undelete' restores the name. IsDirectory if P is a directory: see 'rmdir'.",
+        "Deletes a name of a file. With the last name its current version ends.\n'undelete' restores the name. IsDirectory if P is a directory: see 'rmdir'.",
         "\nExample:\n    create /f    ok file 1\n    unlink /f    ok done\n",
     ),
     // undelete

@@ -15,9 +15,9 @@ use Rattle.ele_model.proofs.Meant.{IsMeant, is_meant, meant_held, is_at, own_is,
 use Rattle.ele_model.proofs.Writers.{written_by, written_more}
 use Rattle.ele_model.proofs.Walks.{file_there, last_leads, file_live, file_of, last_names, place_there, standing_free, standing_is}
 
--- ---- the last target of a dead name may have its name again
+-- ---- the last target of a deleted name may have its name again
 
--- what is true of each name's target is true of a dead name's last target
+-- what is true of each name's target is true of a deleted name's last target
 lost_is : (P : Target → Type 0) (rows : List NameRow) (directory : ℕ) (name : List ℕ) (lost : Target) → AllByRecursion (λ row. P row.target) rows → last_target rows directory name ≡ Ok lost → P lost
 lost_is P rows directory name lost all h = grind (arith, nat_tests, last_has (is_named directory name) (λ row. P row.target) rows)
 

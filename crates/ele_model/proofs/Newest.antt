@@ -2,7 +2,7 @@
 use Rattle.ele_model.proofs.Basics.{nat_tests, arith, ◌≡◌, ℕ, ◌+◌, ◌<◌, Bool, List, [], ◌∷◌, length, map, get_or, take, fold, Option, refl, ap, sym, subst, ◌∙◌, filter, find, is_some, unwrap_or, AllByRecursion, filter_map, keys_of}
 use Rattle.ele_model.proofs.Basics.{values_of, lookup, insert_entry, is_at, option_map, nat_cmp, is_eq, IsTotalOrder, nat_cmp_total, unsigned_tied, eq_by_cmp_equiv, slice_cmp, nat_list_cmp_total, then_total, on_total, fold-append, take_more}
 use Rattle.ele_model.proofs.Basics.{lookup-filter-values, IsDistinct-from_sorted, CmpEqualImpliesEq, exact_pairs, exact_unsigned, exact_bytes, lookup-map_values, keys_of-map_values, is_eq-slice_cmp, last_passing, entries_same, filter_map-map, sorted-filter_entries, all-insert_entry}
-use Rattle.ele_model.proofs.Words.{is_named, last_dead, name_cmp, newest_rows, returning_name, returning, World, is_file, next_of, DeadName, FileRow, NameRow, Target}
+use Rattle.ele_model.proofs.Words.{is_named, last_dead, name_cmp, newest_rows, returning_name, returning, World, is_file, next_of, DeletedName, FileRow, NameRow, Target}
 use Rattle.std.specs.List.Sorted.{IsStrictlySortedBy}
 use Rattle.ele_model.specs.Restorable.{restorable}
 use Rattle.ele_model.proofs.Listed.{all_sorted, inserted_found}
@@ -80,7 +80,7 @@ dead_found rows d n =
 
 -- ---- the restorable ones
 
-abbrev returning_entry : World → Key × Target → Option DeadName
+abbrev returning_entry : World → Key × Target → Option DeletedName
 returning_entry w e = returning_name w (e.0.0, e.0.1, e.1)
 
 dead_return : (w : World) (newest : List Entry) → AllByRecursion IsOwn newest → filter_map (returning_entry w) (targets (dead_of newest)) ≡ filter_map (λ (e : Entry). returning w e.1) newest
@@ -90,7 +90,7 @@ dead_return w (e ∷ newest) own = grind (arith, nat_tests, dead_return w newest
 abbrev as_entry : ℕ × List ℕ × Target → Key × Target
 as_entry item = ((item.0, item.1), item.2)
 
--- of the dead names, each once and in order, with what each last meant, the restorable ones
+-- of the deleted names, each once and in order, with what each last meant, the restorable ones
 pub restorable_is : (w : World) (items : List (ℕ × List ℕ × Target)) → IsStrictlySortedBy name_cmp (keys_of (map as_entry items)) → ((d : ℕ) (n : List ℕ) → lookup (is_at (name_cmp (d, n))) (map as_entry items) ≡ last_dead w.names d n)
     → filter_map (returning_name w) items ≡ restorable w
 unfolding restorable

@@ -85,7 +85,7 @@ without_name w directory name = record w { names = update_first (is_live_name di
 abbrev pub is_idle : World → ℕ → Bool
 is_idle w file = not (is_live w file) && (not (list_any (is_version_of file) w.versions) && not (has_draft w file))
 
--- the world without the file, its dead names and its memberships in groups
+-- the world without the file, its deleted names and its memberships in groups
 abbrev pub without_file : World → ℕ → World
 without_file w file = record w {
   files = remove_first (is_file file) w.files;

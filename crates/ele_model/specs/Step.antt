@@ -173,7 +173,7 @@ plan w (Rename from to) =
     (Unless (is_some (live_target w.names at.0 at.1)) Exists
     (Unless (nat_le w.limits.names w.made.names) (Full which.Names)
     (Make Done (MoveName old.0 old.1 at.0 at.1 moved ∷ [])))))))
--- the target of the dead name has it again; a file without a live name gets a version like its last one
+-- the target of the deleted name has it again; a file without a live name gets a version like its last one
 plan w (Undelete path) =
     Need (parent_now w.names path) (λ at.
     Unless (is_some (live_target w.names at.0 at.1)) Exists
@@ -212,7 +212,7 @@ plan w (Truncate handle size) =
     Need (file_by w.handles handle) (λ file.
     Unless (nat_lt longest_content size) TooBig
     (Make Done (TruncateDraft file size ∷ [])))
--- the handle closes. With a file's last writer a changed draft becomes the next version. Any other draft is removed, and a file without
+-- the handle closes. With a file's last writer a changed draft becomes the next version. Any other draft is discarded, and a file without
 -- live name, version and draft with it. A writer has a draft, so the reply for the case of none is never given
 plan w (Close handle) =
     Need (reads_by w.handles handle) (λ read.
@@ -222,7 +222,7 @@ plan w (Close handle) =
     When draft.changed
     (Make (Closed (Some (next_of w.files file))) (ShutHandle handle ∷ EndDraft file ∷ Append file draft.opened draft.cells ∷ []))
     (Make (Closed None) (ShutHandle handle ∷ EndDraft file ∷ DropIdle file ∷ []))))))
--- the handle of a writer ends; with the last one the draft is removed, and a file without live name, version and draft with it
+-- the handle of a writer ends; with the last one the draft is discarded, and a file without live name, version and draft with it
 plan w (Abandon handle) =
     Need (file_by w.handles handle) (λ file.
     When (has_other_writer w handle file) (Make Done (ShutHandle handle ∷ []))

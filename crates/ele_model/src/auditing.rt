@@ -2,7 +2,7 @@
 //! look at all rows.
 ghost use Rattle.std.specs.Prelude.{◌≡◌, IfOk};
 
-use crate::list::{DeadNameList, KeyList};
+use crate::list::{DeletedNameList, KeyList};
 use crate::step::Step;
 use ele_moment::NoMemory;
 use ele_usage::Usage;
@@ -22,7 +22,7 @@ pub trait Audit: Step {
     /// Returns the restorable names, by directory and then by the bytes of the name.
     ///
     /// `NoMemory` if memory is refused.
-    fn dead_names(&self) -> Result<DeadNameList, NoMemory>
+    fn deleted_names(&self) -> Result<DeletedNameList, NoMemory>
         ensures { IfOk result (λ names. names ≡ restorable (Self.world self.now)) };
 
     /// Returns what the files of each kind of policy use, in the order of `Kind`.

@@ -7,7 +7,7 @@ ghost use Rattle.ele_model.specs.Scan.{scan};
 ghost use Rattle.ele_model.specs.Usage.{usages};
 
 use crate::flat::Flat;
-use crate::rows::DeadName;
+use crate::rows::DeletedName;
 use ele_due::Key;
 use ele_moment::NoMemory;
 use ele_usage::Usage;
@@ -20,7 +20,7 @@ fn are_same_keys(keys: &[Key], others: &[Key]) -> bool
 }
 
 // Whether both lists have the same names.
-fn are_same_names(names: &[DeadName], others: &[DeadName]) -> bool
+fn are_same_names(names: &[DeletedName], others: &[DeletedName]) -> bool
     ensures { IsTrue result ↔ (names.now ≡ others.now) }
 {
     names == others
@@ -37,11 +37,11 @@ fn are_same_sums(sums: &[Usage; 4], others: &[Usage; 4]) -> bool
 /// of the world. The caller knows that the sums are within 64 bits.
 ///
 /// `NoMemory` if memory for a scan is refused.
-/// Cost: that of the three scans of `Flat`, which are `due_keys`, `dead_names` and `usage`, and of
+/// Cost: that of the three scans of `Flat`, which are `due_keys`, `deleted_names` and `usage`, and of
 /// a comparison with each answer.
 pub fn audit(
     due: &[Key],
-    names: &[DeadName],
+    names: &[DeletedName],
     usage: &[Usage; 4],
     world: &Flat,
 ) -> Result<bool, NoMemory>
@@ -50,7 +50,7 @@ pub fn audit(
         × (names.now ≡ restorable world.entry.now) × (usage.now ≡ usages world.entry.now))) }
 {
     let keys = world.due_keys()?;
-    let dead = world.dead_names()?;
+    let dead = world.deleted_names()?;
     Ok(
         are_same_keys(due, keys.as_slice())
             && are_same_names(names, dead.as_slice())

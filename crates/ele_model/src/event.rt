@@ -24,17 +24,17 @@ pub enum Event {
     Tick(u64),
     /// Makes a directory at the path, with the default policy of its parent.
     MakeDir(Path),
-    /// Removes the name of the directory at the path, which has no live name in it.
+    /// Deletes the name of the directory at the path, which has no live name in it.
     RemoveDir(Path),
     /// Makes a file at the path, with an empty first version.
     Create(Path),
     /// Gives the file at the first path the second path as another name.
     Link(Path, Path),
-    /// Removes the name of the file at the path; with the last name the current version ends.
+    /// Deletes the name of the file at the path; with the last name the current version ends.
     Unlink(Path),
     /// Moves the file or directory at the first path to the second path.
     Rename(Path, Path),
-    /// Restores the dead name at the path, with the file or directory that it last had. A file
+    /// Restores the deleted name at the path, with the file or directory that it last had. A file
     /// without a live name gets a version with the content of its last one.
     Undelete(Path),
     /// Opens a handle that writes the file at the path.

@@ -7,7 +7,7 @@ ghost use Rattle.ele_model.specs.Scan.{scan};
 ghost use Rattle.ele_model.specs.Usage.{usages};
 
 use crate::limits::{Counts, Limits};
-use crate::list::{DeadNameList, KeyList, triples_of};
+use crate::list::{DeletedNameList, KeyList, triples_of};
 use crate::rows::{
     DirectoryRow, DraftRow, FileRow, GroupRow, HandleRow, NameRow, Target, VersionRow,
 };
@@ -62,19 +62,19 @@ impl Flat {
     /// order of directory and then of the bytes of the name.
     ///
     /// `NoMemory` if memory is refused.
-    /// Cost: that of `dead_names`, and a second copy of the names.
+    /// Cost: that of `deleted_names`, and a second copy of the names.
     pub fn restorable(&self) -> Result<Vec<(DirId, Name, Target)>, NoMemory>
         ensures { IfOk result (λ names. names.items ≡ map triple_of (restorable self.entry.now)) }
     {
-        triples_of(&self.dead_names()?)
+        triples_of(&self.deleted_names()?)
     }
 
     /// Returns the names of `restorable`, as the list that a reply holds.
     ///
     /// `NoMemory` if memory is refused.
-    /// Cost: grows with a sort of all names, which takes memory, and with the dead ones times all
+    /// Cost: grows with a sort of all names, which takes memory, and with the deleted ones times all
     /// rows of files, versions and names.
-    pub fn dead_names(&self) -> Result<DeadNameList, NoMemory>
+    pub fn deleted_names(&self) -> Result<DeletedNameList, NoMemory>
         ensures { IfOk result (λ names. names ≡ restorable self.entry.now) }
     {
         returning::restorable(self)

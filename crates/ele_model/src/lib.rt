@@ -41,12 +41,12 @@ pub use explain::Explain;
 pub use fate::Fate;
 pub use flat::Flat;
 pub use limits::{Counts, LimitNumbers, Limits};
-pub use list::{DeadNameList, GroupList, KeyList, NameList, Rows, StampsList, triples_of};
+pub use list::{DeletedNameList, GroupList, KeyList, NameList, Rows, StampsList, triples_of};
 pub use pass::PassEnd;
 pub use refusal::{Refusal, Stop, Which};
 pub use reply::Reply;
 pub use rows::{
-    DeadName, DirectoryRow, DraftRow, FileRow, FileStat, GroupRow, HandleRow, MarkRow, NameRow,
+    DeletedName, DirectoryRow, DraftRow, FileRow, FileStat, GroupRow, HandleRow, MarkRow, NameRow,
     Reads, Target, VersionInfo, VersionRow,
 };
 pub use step::Step;

@@ -2,7 +2,7 @@
 ghost use Rattle.std.specs.Prelude.{◌≡◌, IfOk, map};
 ghost use Rattle.ele_model.specs.Restorable.{triple_of};
 
-use crate::rows::{DeadName, GroupRow, Target, VersionInfo};
+use crate::rows::{DeletedName, GroupRow, Target, VersionInfo};
 use ele_due::Key;
 use ele_lists::ListOf;
 use ele_moment::{DirId, Name, NoMemory};
@@ -11,7 +11,7 @@ use ele_moment::{DirId, Name, NoMemory};
 pub type KeyList = ListOf<Key>;
 
 /// Restorable names, by directory and then by the bytes of the name.
-pub type DeadNameList = ListOf<DeadName>;
+pub type DeletedNameList = ListOf<DeletedName>;
 
 /// Versions of one file, by number.
 pub type StampsList = ListOf<VersionInfo>;
@@ -29,7 +29,7 @@ pub type NameList = ListOf<(Name, Target)>;
 ///
 /// `NoMemory` if memory is refused.
 /// Cost: grows with the names, which it copies.
-pub fn triples_of(names: &DeadNameList) -> Result<Vec<(DirId, Name, Target)>, NoMemory>
+pub fn triples_of(names: &DeletedNameList) -> Result<Vec<(DirId, Name, Target)>, NoMemory>
     ensures { IfOk result (λ triples. triples.items ≡ map triple_of names.now) }
 {
     Ok(

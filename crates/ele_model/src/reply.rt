@@ -1,6 +1,6 @@
 //! Replies to commands. Large values are boxed, so that a reply stays small.
 use crate::boxed::Boxed;
-use crate::list::{DeadNameList, GroupList, KeyList, NameList, StampsList};
+use crate::list::{DeletedNameList, GroupList, KeyList, NameList, StampsList};
 use crate::refusal::Refusal;
 use crate::rows::{DirectoryRow, FileStat};
 use ele_due::Key;
@@ -32,7 +32,7 @@ pub enum Reply {
     /// The names of a directory and what they mean, or meant, by the bytes of the names.
     NameList(NameList),
     /// The restorable names.
-    RestoreList(DeadNameList),
+    RestoreList(DeletedNameList),
     DueList(KeyList),
     /// What the files of each kind of policy use, in the order of `Kind`.
     UsageList(Boxed<[Usage; 4]>),

@@ -7,8 +7,8 @@ ghost use Rattle.ele_model.specs.Restorable.{may_return, newest_rows, returning,
 ghost use Rattle.ele_model.specs.World.{is_file, next_of, is_version};
 
 use crate::flat::Flat;
-use crate::list::DeadNameList;
-use crate::rows::{DeadName, FileRow, NameRow, Target, VersionRow};
+use crate::list::DeletedNameList;
+use crate::rows::{DeletedName, FileRow, NameRow, Target, VersionRow};
 use ele_lists::ListOf;
 use ele_moment::{DirId, FileId, Name, NoMemory, VersionNo};
 use std::alloc::Global;
@@ -69,11 +69,11 @@ fn may_return(world: &Flat, target: Target) -> bool
 }
 
 /// The name, if its newest row is dead and its target may have a name again.
-fn returning(world: &Flat, row: &NameRow) -> Option<DeadName>
+fn returning(world: &Flat, row: &NameRow) -> Option<DeletedName>
     ensures { result ≡ returning world.entry.now row.now }
 {
     if row.death.is_some() && may_return(world, row.target) {
-        return Some(DeadName {
+        return Some(DeletedName {
             directory: row.directory,
             name: row.name,
             target: row.target,
@@ -97,12 +97,12 @@ fn newest_rows(
 }
 
 /// The restorable names, by directory and then by the bytes of the name.
-pub fn restorable(world: &Flat) -> Result<DeadNameList, NoMemory>
+pub fn restorable(world: &Flat) -> Result<DeletedNameList, NoMemory>
     ensures { IfOk result (λ names. names ≡ restorable world.entry.now) }
 {
     let alloc = world.names.allocator();
     let newest = newest_rows(world.names.as_slice(), alloc)?;
-    let names: Vec<DeadName> = newest
+    let names: Vec<DeletedName> = newest
         .values()
         .filter_map(|row| returning(world, row))
         .collect(alloc)?;

@@ -50,7 +50,7 @@ pub struct NameRow {
 
 /// A name whose newest row is dead, and the target of that row.
 #[derive(Clone, Copy, PartialEq, Eq)]
-pub struct DeadName {
+pub struct DeletedName {
     pub directory: DirId,
     pub name: Name,
     pub target: Target,

@@ -12,7 +12,7 @@ use Rattle.ele_model.specs.declared.reply.Reply.{Reply}
 use Rattle.ele_model.specs.declared.reply.Reply.TheVariants.{Done, Nothing, Now, Directory, File, Handle, Version, Closed, Removed, Bytes, FileStat, DirStat, Rows, NameList, RestoreList, DueList, UsageList, GroupList, Refused}
 use Rattle.ele_policy.specs.PolicyText.{kind_word, policy_word}
 use Rattle.ele_policy.specs.declared.policy.Kind.TheVariants as kind
-use Rattle.ele_model.specs.declared.rows.DeadName.{DeadName}
+use Rattle.ele_model.specs.declared.rows.DeletedName.{DeletedName}
 use Rattle.ele_model.specs.declared.rows.DirectoryRow.{DirectoryRow}
 use Rattle.ele_model.specs.declared.rows.FileStat.{FileStat as AnyFileStat}
 use Rattle.ele_model.specs.declared.rows.GroupRow.{GroupRow}
@@ -47,7 +47,7 @@ target_words (target.File file) = codes "file" ∷ decimal file ∷ []
 target_words (target.Directory directory) = codes "directory" ∷ decimal directory ∷ []
 
 -- the line of a restorable name: its directory, its bytes, and its target
-abbrev pub restorable_line : DeadName → List ℕ
+abbrev pub restorable_line : DeletedName → List ℕ
 restorable_line dead = line_text (codes "-" ∷ decimal dead.directory ∷ dead.name ∷ target_words dead.target)
 
 -- the line of a name of a directory, and its target
@@ -59,7 +59,7 @@ abbrev pub names_text : List (List ℕ × Target) → List ℕ
 names_text names = line_text (codes "ok names" ∷ decimal (length names) ∷ []) ++ flat_map name_line names
 
 -- the text of restorable names: their number, and a line for each
-abbrev pub restorable_text : List DeadName → List ℕ
+abbrev pub restorable_text : List DeletedName → List ℕ
 restorable_text names =
     line_text (codes "ok restorable" ∷ decimal (length names) ∷ []) ++ flat_map restorable_line names
 

@@ -10,7 +10,7 @@ use crate::row::{Row, put_rows};
 use crate::rows::{put_directory, put_file, target_parts};
 use ele_commands::Word::{Bytes, Moment, Name, Number, Plain};
 use ele_commands::put_line_of;
-use ele_model::{DeadName, Key, PassEnd, Reply, Stop, Usage, VersionNo};
+use ele_model::{DeletedName, Key, PassEnd, Reply, Stop, Usage, VersionNo};
 use ele_output::{Printer, put_number};
 use std::io::Write;
 
@@ -128,7 +128,7 @@ impl Row for Key {
     }
 }
 
-impl Row for DeadName {
+impl Row for DeletedName {
     ghost row_line = { restorable_line };
 
     fn put_row<W: Write>(&self, printer: &mut Printer<'_, W>) {

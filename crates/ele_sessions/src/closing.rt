@@ -7,9 +7,9 @@ use ele_moment::{FileId, Moment, VersionNo};
 pub enum Closing {
     /// Another handle writes the file, and its draft stays.
     StillOpen,
-    /// The draft is removed, and nothing in it was changed.
+    /// The draft is discarded, and nothing in it was changed.
     Clean(FileId),
-    /// The draft is removed, and was changed. It was opened at that moment.
+    /// The draft is discarded, and was changed. It was opened at that moment.
     Changed(FileId, Moment),
     /// The handle read that version.
     Unread(FileId, VersionNo),

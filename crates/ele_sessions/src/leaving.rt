@@ -39,7 +39,7 @@ pub fn peek(drafts: &[Entry], file: FileId, stays: bool) -> Closing
     ending(&drafts[at])
 }
 
-/// Closes a writer of the file. If no other writer stays, the draft is removed, and its map
+/// Closes a writer of the file. If no other writer stays, the draft is discarded, and its map
 /// returned.
 pub fn leave(drafts: &mut Vec<Entry>, file: FileId, stays: bool) -> (Closing, Option<BlockMap>)
     requires rise { Rises file_in drafts.old.items }

@@ -120,7 +120,7 @@ impl Sessions {
     }
 
     /// Closes the handle. None if no open handle has that number. With the last writer of a file
-    /// its draft is removed, and its map returned, for the caller to keep or to give up.
+    /// its draft is discarded, and its map returned, for the caller to keep or to give up.
     pub fn close(&mut self, handle: Handle) -> Option<(Closing, Option<BlockMap>)>
         ensures answer { result ≡ closing self.old handle }
         ensures sessions { self.new ≡ closed self.old handle }

@@ -8,14 +8,14 @@ ghost use Rattle.ele_model.specs.Scan.{scan};
 ghost use Rattle.ele_model.specs.Usage.{usages};
 ghost use Rattle.ele_shell.specs.Audit.{row_of};
 
-use ele_core::{DeadName, DirId, Flat, Key, Name, NoMemory, Target, Usage};
+use ele_core::{DeletedName, DirId, Flat, Key, Name, NoMemory, Target, Usage};
 use std::alloc::Global;
 
 // The row of a name that is given as a triple.
-fn row_of(given: &(DirId, Name, Target)) -> DeadName
+fn row_of(given: &(DirId, Name, Target)) -> DeletedName
     ensures { result ≡ row_of given.now }
 {
-    DeadName {
+    DeletedName {
         directory: given.0,
         name: given.1,
         target: given.2,
@@ -23,7 +23,7 @@ fn row_of(given: &(DirId, Name, Target)) -> DeadName
 }
 
 // The rows of names that are given as triples.
-fn rows_of(alloc: Global, names: &[(DirId, Name, Target)]) -> Result<Vec<DeadName>, NoMemory>
+fn rows_of(alloc: Global, names: &[(DirId, Name, Target)]) -> Result<Vec<DeletedName>, NoMemory>
     ensures { IfOk result (λ rows. rows.items ≡ map row_of names.now) }
 {
     Ok(names.iter().map(row_of).collect(alloc)?)

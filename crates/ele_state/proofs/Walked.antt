@@ -1,4 +1,4 @@
--- What a path leads to is there, and so is what a dead name meant.
+-- What a path leads to is there, and so is what a deleted name meant.
 use Rattle.ele_state.proofs.Words.{◌≡◌, ◌<◌, ℕ, true, List, Option, Some, Result, Ok, IfOk, IfSome, Refusal, arith, nat_tests, AllByRecursion, all-weaker, Homes, IsHome, IsHoused, IsNameRow, IsPresent, IsSound, IsThere, IsDirectoryThere, Names, Rows, Target, all-found, file_live, file_now, file_there, is_live, is_live_name, is_named, last_dead, live_target, last_has, next_of, parent_home, parent_now, walk_meant, world_of}
 use Rattle.ele_state.proofs.ToldVersions.{meant_there}
 use Rattle.ele_path.specs.declared.tagged.Tag.{Tag}

@@ -79,7 +79,7 @@ impl State {
             .names
             .add(directory, name, Target::File(id), self.rows.moment)?;
         if let Err(refused) = self.rows.files.add(id, policy, self.rows.moment) {
-            // This removes the name again: it is the file's only one.
+            // This deletes the name again: it is the file's only one.
             self.rows.names.drop_file(id);
             return Err(refused);
         }
@@ -162,8 +162,8 @@ fn unmake(rows: &mut Rows, id: FileId, kind: Kind)
     rows.made.versions -= 1;
 }
 
-// Drops the file with its dead names and its memberships, if it has no live name, no held version
-// and no draft.
+// Drops the file with its deleted names and its memberships, if it has no live name, no held
+// version and no draft.
 #[tactic(auto, using(crate::proofs::Words::nat_tests, crate::proofs::DroppedFiles::absent_stays, crate::proofs::DroppedFiles::dropped_within))]
 pub fn drop_idle(rows: &mut Rows, file: FileId)
     requires { IsSound rows.old }

@@ -6,7 +6,9 @@ ghost use Rattle.ele_state.specs.Inside.{world_of, IsSound};
 
 use crate::State;
 use crate::rows::Rows;
-use ele_model::{DeadName, DeadNameList, DirId, FileId, ListOf, Name, NoMemory, Target, VersionNo};
+use ele_model::{
+    DeletedName, DeletedNameList, DirId, FileId, ListOf, Name, NoMemory, Target, VersionNo,
+};
 
 // Whether the file's last version is held.
 #[tactic(auto, using(crate::proofs::Words::nat_tests, crate::proofs::Revived::unheld, crate::proofs::Revived::no_next, crate::proofs::Revived::stamped, crate::proofs::ClosedSteps::number_told))]
@@ -53,13 +55,13 @@ impl State {
         }
     }
 
-    // The dead name, if its last target may have a name again.
-    fn returning(&self, lost: (DirId, Name, Target)) -> Option<DeadName>
+    // The deleted name, if its last target may have a name again.
+    fn returning(&self, lost: (DirId, Name, Target)) -> Option<DeletedName>
         ensures { result ≡ returning_name self.now.world lost }
     {
         let (directory, name, target) = lost;
         if self.may_return(&target) {
-            return Some(DeadName {
+            return Some(DeletedName {
                 directory,
                 name,
                 target,
@@ -71,11 +73,11 @@ impl State {
     /// Returns the restorable names, by directory and then by the bytes of the name.
     ///
     /// `NoMemory` if memory is refused.
-    pub fn restorable(&self) -> Result<DeadNameList, NoMemory>
+    pub fn restorable(&self) -> Result<DeletedNameList, NoMemory>
         ensures { IfOk result (λ names. names ≡ restorable self.now.world) }
     {
         let dead = self.rows.names.dead()?;
-        let names: Vec<DeadName> = dead
+        let names: Vec<DeletedName> = dead
             .into_iter()
             .filter_map(|lost| self.returning(lost))
             .collect(self.rows.alloc)?;

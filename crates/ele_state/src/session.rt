@@ -170,9 +170,9 @@ impl State {
         Ok(())
     }
 
-    /// Closes the handle. With a file's last writer the draft is removed: a changed one becomes the
-    /// file's next version, and the call returns that version's number. A file without live name,
-    /// version and draft is dropped. A version that no other handle reads gets its key again.
+    /// Closes the handle. With a file's last writer the draft is discarded: a changed one becomes
+    /// the file's next version, and the call returns that version's number. A file without live
+    /// name, version and draft is dropped. A version that no other handle reads gets its key again.
     ///
     /// `NoMemory` if memory is refused; the world stays as it was.
     pub fn close(&mut self, handle: &FoundHandle) -> Result<Option<VersionNo>, NoMemory>
@@ -189,9 +189,9 @@ impl State {
 }
 
 impl State {
-    /// Ends a handle that writes the file. If no other handle writes it, its draft is removed, and
-    /// makes no version. A file without live name, version and draft is then dropped. It takes no
-    /// memory.
+    /// Ends a handle that writes the file. If no other handle writes it, its draft is discarded,
+    /// and makes no version. A file without live name, version and draft is then dropped. It takes
+    /// no memory.
     pub fn abandon(&mut self, handle: &FoundHandle, file: FileId)
         requires stands { StandsAt self.old.world.handles handle.now }
         requires reads { handle.now.row.reads ≡ Draft file }

@@ -74,7 +74,7 @@ fn is_equal<C: Audit>(core: &C) -> Result<bool, NoMemory>
     ensures { IfOk result (λ equal. IsTrue equal) }
 {
     let due = core.due_keys()?;
-    let names = core.dead_names()?;
+    let names = core.deleted_names()?;
     let usage = core.usage();
     let flat = core.flat()?;
     // For the proof: the world is well formed, so the sums of its usage are within 64 bits.

@@ -1,7 +1,7 @@
 -- An undelete takes just the names that are listed as restorable.
 use Rattle.ele_model.proofs.Basics.{nat_tests, arith, ◌≡◌, ℕ, ◌||◌, ◌&&◌, not, Bool, true, false, List, [], ◌∷◌, None, Ok, refl, ap, ◌∙◌, find, is_none, is_some, AllLater, list_any, option_map, passing, bytes_eq-Decides, later-weaker}
 use Rattle.ele_model.proofs.Words.{World, Names, AreApart, is_live_name, is_named, last_dead, live_target, may_return, parent_now, plan, outcome, HasParts, step}
-use Rattle.ele_world.proofs.Words.{DeadName, NameRow, Undelete}
+use Rattle.ele_world.proofs.Words.{DeletedName, NameRow, Undelete}
 use Rattle.ele_lists.proofs.Lasts.{find_last}
 use Rattle.ele_lists.proofs.Found.{find-same}
 use Rattle.ele_model.specs.Restorable.{restorable}
@@ -25,6 +25,6 @@ answer w path at stands = rw stands (grind (arith, nat_tests))
 
 pub undelete_takes : (w : World) (path : List (List ℕ)) (at : ℕ × List ℕ) → HasParts w → parent_now w.names path ≡ Ok at → list_any (is_dead_name at.0 at.1) (restorable w) ≡ not (cannot_return ((step w (asked.Undelete path)).0))
 undelete_takes w path at k stands =
-    any_is_some (is_dead_name at.0 at.1) (λ (dead : DeadName). dead.target) (restorable w)
+    any_is_some (is_dead_name at.0 at.1) (λ (dead : DeletedName). dead.target) (restorable w)
     ∙ ap is_some ((restorable_lists w).each at.0 at.1)
     ∙ grind (arith, nat_tests, k.holds Names, answer w path at stands, none_lost w.names at.0 at.1)

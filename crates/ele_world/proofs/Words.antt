@@ -6,7 +6,7 @@ pub use Rattle.ele_model.specs.declared.refusal.Refusal.{Refusal}
 pub use Rattle.ele_model.specs.declared.refusal.Refusal.TheVariants.{Forgotten, NoEntry, NoHandle}
 pub use Rattle.ele_model.specs.declared.reply.Reply.{Reply}
 pub use Rattle.ele_model.specs.declared.reply.Reply.TheVariants.{Bytes, Done}
-pub use Rattle.ele_model.specs.declared.rows.DeadName.{DeadName}
+pub use Rattle.ele_model.specs.declared.rows.DeletedName.{DeletedName}
 pub use Rattle.ele_model.specs.declared.rows.DirectoryRow.{DirectoryRow}
 pub use Rattle.ele_model.specs.declared.rows.DraftRow.{DraftRow}
 pub use Rattle.ele_model.specs.declared.rows.FileRow.{FileRow}

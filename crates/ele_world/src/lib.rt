@@ -6,7 +6,7 @@ pub mod laws;
 pub mod schedule;
 
 pub use ele_model::{
-    Audit, ByteList, Cause, Cell, Counts, Cover, DeadName, DeadNameList, DirId, DirectoryRow,
+    Audit, ByteList, Cause, Cell, Counts, Cover, DeletedName, DeletedNameList, DirId, DirectoryRow,
     DraftRow, Entry, Event, Explain, Fate, FileId, FileRow, FileStat, Flat, Floor, GroupList,
     GroupRow, Handle, HandleRow, Interval, Key, KeyList, Kind, Ladder, LimitNumbers, Limits,
     ListOf, MarkRow, Moment, Name, NameList, NameRow, NoMemory, PassEnd, Path, PathAt, Policy,

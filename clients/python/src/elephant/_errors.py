@@ -112,7 +112,7 @@ class IntoItself(Refused, number=10):
 
 
 class IsRoot(Refused, number=11):
-    """The root can't be made, moved or removed."""
+    """The root can't be made, moved or deleted."""
 
 
 class Future(Refused, number=12):

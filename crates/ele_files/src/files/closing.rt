@@ -49,7 +49,7 @@ impl Files {
     }
 
     /// Removes a handle, and makes no version. While others write the file its draft stays; with
-    /// the last writer the draft is removed, even a changed one. A handle that reads a version
+    /// the last writer the draft is discarded, even a changed one. A handle that reads a version
     /// leaves nothing.
     pub fn leave(&mut self, handle: &FoundHandle)
         requires { StandsAt self.old.handles handle.now }

@@ -31,7 +31,7 @@ FIRST_INO = 1 << 48
 PARTS = (b"at", b"limits", b"restorable", b"restorable-until", b"socket", b"soon", b"versions")
 _WORDS: dict[bytes, tuple[object, ...]] = {b"versions": (b"",), b"restorable": (0,)}
 # The kinds of files: by a moment, by the number of a version, and deleted ones.
-FILES = ("then", "version", "dead")
+FILES = ("then", "version", "deleted")
 Key = tuple[object, ...]
 
 
@@ -100,9 +100,9 @@ class Past:
         self.by_ino: dict[int, PastNode] = {}
         self._by_key: dict[Key, PastNode] = {}
         self._next = FIRST_INO
-        self._dead: dict[int, dict[bytes, Key]] = {}
-        self._dead_paths: dict[int, bytes] = {}
-        self._dead_seen = -1
+        self._deleted: dict[int, dict[bytes, Key]] = {}
+        self._deleted_paths: dict[int, bytes] = {}
+        self._deleted_seen = -1
         self.texts: dict[str, Callable[[], bytes]] = {"limits": self.limits, "soon": bytes, "restorable-until": bytes}
         """What the files hold that are texts."""
         self.notes: Callable[[], str] = str
@@ -144,10 +144,10 @@ class Past:
             return self._find_versions(words[0], name)
         if kind == "file":
             return self._file("version", words[0], _number(name))
-        key = self._dead_names(words[0]).get(name) if kind == "restorable" else None
+        key = self._deleted_names(words[0]).get(name) if kind == "restorable" else None
         if key is None:
             raise FileNotFoundError(errno.ENOENT, "")
-        return self._file(*key) if key[0] == "dead" else self.node(*key)
+        return self._file(*key) if key[0] == "deleted" else self.node(*key)
 
     def _find_at(self, words: list[object], name: bytes) -> PastNode:
         if not words:
@@ -211,7 +211,7 @@ class Past:
             return first, VERSION, second
         if kind == "file":
             return first, NOW, 0
-        return self._dead_path(first) + b"/" + second, AT, max(self.store.chronicle.last_end(first, second) - 1, 0)
+        return self._deleted_path(first) + b"/" + second, AT, max(self.store.chronicle.last_end(first, second) - 1, 0)
 
     def _ask(self, *key: object) -> Row:
         """Asks the store for a row, by the first words of a key."""
@@ -273,7 +273,7 @@ class Past:
         except (ElephantError, OSError):
             if node.opens and node.shown is not None:
                 return node.shown
-            if node.key[0] != "dead" or node.key[-1]:
+            if node.key[0] != "deleted" or node.key[-1]:
                 raise
             return Shown(FILE_MODE, 0, int(self.store.now), root.owner, root.group)
         node.shown = _shown(self.tree.records.of(file_key(row.file)), False, row.length, row.closed, root)
@@ -300,23 +300,23 @@ class Past:
             return sorted(self._directory(words[0]).children)
         if kind == "file":
             return [b"%d" % it.number for it in self.store.versions(_path(words[0]))]
-        return sorted(self._dead_names(words[0])) if kind == "restorable" else []
+        return sorted(self._deleted_names(words[0])) if kind == "restorable" else []
 
     # Deleted names.
 
-    def _dead_path(self, number: object) -> bytes:
-        self._refresh_dead()
-        return self._dead_paths.get(_whole(number), b"")
+    def _deleted_path(self, number: object) -> bytes:
+        self._refresh_deleted()
+        return self._deleted_paths.get(_whole(number), b"")
 
-    def _dead_names(self, number: object) -> dict[bytes, Key]:
-        self._refresh_dead()
-        return self._dead.get(_whole(number), {})
+    def _deleted_names(self, number: object) -> dict[bytes, Key]:
+        self._refresh_deleted()
+        return self._deleted.get(_whole(number), {})
 
-    def _refresh_dead(self) -> None:
+    def _refresh_deleted(self) -> None:
         """Lists the deleted names again if any name has changed: those of files without another name, by directory."""
-        if self._dead_seen == self.store.name_changes:
+        if self._deleted_seen == self.store.name_changes:
             return
-        dead: dict[int, dict[bytes, Key]] = {}
+        deleted: dict[int, dict[bytes, Key]] = {}
         places: dict[int, tuple[int, bytes]] = {0: (0, b"")}
         for directory in self.tree.directories():
             assert directory.parent is not None
@@ -327,10 +327,10 @@ class Past:
                 places.setdefault(row.number, (row.parent, row.spelled))
         for row in rows:
             if not row.is_directory and row.number not in self.tree.files and row.parent in places:
-                _add_name(dead.setdefault(row.parent, {}), row.spelled, ("dead", row.parent, row.spelled, row.number))
-                _add_above(dead, places, row.parent)
-        self._dead, self._dead_seen = dead, self.store.name_changes
-        self._dead_paths = {it: _path_in(places, it) for it in dead}
+                _add_name(deleted.setdefault(row.parent, {}), row.spelled, ("deleted", row.parent, row.spelled, row.number))
+                _add_above(deleted, places, row.parent)
+        self._deleted, self._deleted_seen = deleted, self.store.name_changes
+        self._deleted_paths = {it: _path_in(places, it) for it in deleted}
 
     # Stores.
 
@@ -355,11 +355,11 @@ def _add_name(names: dict[bytes, Key], spelling: bytes, key: Key) -> bool:
     return is_new
 
 
-def _add_above(dead: dict[int, dict[bytes, Key]], places: dict[int, tuple[int, bytes]], number: int) -> None:
+def _add_above(deleted: dict[int, dict[bytes, Key]], places: dict[int, tuple[int, bytes]], number: int) -> None:
     """Lists a directory with deleted names in its parent, and so on up."""
     while number:
         parent, spelling = places[number]
-        if not _add_name(dead.setdefault(parent, {}), spelling, ("restorable", number)):
+        if not _add_name(deleted.setdefault(parent, {}), spelling, ("restorable", number)):
             return
         number = parent
         if number not in places:

@@ -38,7 +38,7 @@ class Readers:
             source = None if node.key[0] in self.past.texts else self.past.source(node)
             content = self.past.content(node)
         except (ElephantError, OSError) as fault:
-            if node.key[0] == "dead" and not node.key[-1] and not isinstance(fault, Forgotten):
+            if node.key[0] == "deleted" and not node.key[-1] and not isinstance(fault, Forgotten):
                 raise OSError(errno.ENODATA, "") from fault
             raise
         self.opened[handle] = Opened(node, source if self.past.can_lose(node) else None, content)

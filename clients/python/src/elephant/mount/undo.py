@@ -10,7 +10,7 @@ from functools import cache
 from itertools import chain
 from typing import NamedTuple, Optional, Union
 
-from .. import DeadName, Forgotten, Refused
+from .. import DeletedName, Forgotten, Refused
 from ..keeping import AT, VERSION, told_time
 from .chronicle import begin_of_last
 from .contents import Contents
@@ -185,7 +185,7 @@ class Undo:
         done.run(steps + inside)
         return _answer(f"brought back {what}", done.left, [])
 
-    def _steps_inside(self, paths: dict[int, bytes], rows: list[DeadName]) -> list[Step]:
+    def _steps_inside(self, paths: dict[int, bytes], rows: list[DeletedName]) -> list[Step]:
         """Returns the steps that restore the deleted names in a folder and below it, each folder before what it has."""
         steps, folders = [], [it for it in rows if it.is_directory]
         while folders:

@@ -5,7 +5,7 @@ from __future__ import annotations
 from collections.abc import Iterator
 from typing import Optional, Union
 
-from .. import DeadName, Forgotten, Refused
+from .. import DeletedName, Forgotten, Refused
 from ..keeping import AT
 from .names import name_in, shown
 from .records import file_key
@@ -66,10 +66,10 @@ class Whereabouts:
 
     # Deleted names.
 
-    def deleted(self, path: bytes) -> list[tuple[bytes, DeadName]]:
+    def deleted(self, path: bytes) -> list[tuple[bytes, DeletedName]]:
         """Returns a deleted path and before it the deleted folders above it, each with its row. Raises Nothing if it can't be restored."""
         rows = {(it.parent, it.spelled): it for it in self.store.restorable()}
-        chain: list[tuple[bytes, DeadName]] = []
+        chain: list[tuple[bytes, DeletedName]] = []
         number, place = 0, b""
         for spelling in path.split(b"/")[1:]:
             node = self.tree.find(place + b"/" + spelling) if not chain else None
