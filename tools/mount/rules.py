@@ -313,13 +313,18 @@ def _as_nobody(*words: str | Path) -> tuple[int, str]:
 
 def threads(room: str, asked: argparse.Namespace) -> Counts:
     """The client's tests of what a mount does beside its requests, by the Python that has pyfuse3."""
-    words = [mounts.python() or sys.executable, "-m", "unittest", "test_mount_threads", "test_mount_syncs"]
+    return run_tests("threads", ["test_mount_threads", "test_mount_syncs"])
+
+
+def run_tests(name: str, modules: list[str]) -> Counts:
+    """Runs tests of the client, and returns one check."""
+    words = [mounts.python() or sys.executable, "-m", "unittest", *modules]
     place = ROOT / "clients" / "python" / "tests"
     environment = {**Mounted.environment(), "PYTHONPATH": f"{mounts.SOURCE}:{place}"}
     ran = subprocess.run(words, cwd=place, env=environment, capture_output=True, text=True, check=False)
     is_good = ran.returncode == 0 and "\nOK\n" in ran.stderr and "Ran 0 " not in ran.stderr
     if not is_good:
-        print(f"mount: threads: {ran.stderr[-2000:]}")
+        print(f"mount: {name}: {ran.stderr[-2000:]}")
     return 1, int(not is_good)
 
 

@@ -147,7 +147,7 @@ class Undone(unittest.TestCase):
 
     def words(self, *words: str) -> list[str]:
         """Returns the words of a line that is typed as one word, or as several."""
-        return client.undo_line(self.top, words[0] if len(words) == 1 else "", words_of(words[0]) if len(words) == 1 else list(words))
+        return client.typed_line(self.top, words[0] if len(words) == 1 else "", words_of(words[0]) if len(words) == 1 else list(words))
 
     def test_files_and_moments(self) -> None:
         for name in ("f", "my letter", "f 2026"):

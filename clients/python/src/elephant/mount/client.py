@@ -10,6 +10,10 @@ from contextlib import suppress
 from .. import BadTime, read_time
 from .names import spelled
 
+# Lines of the mount's own that take one file or folder, and the places of the paths in others.
+_OF_FILES = ("undo",)
+_PATHS = {"policy": (1,), "default": (1,), "why": (1,), "versions": (1,), "group": (3,)}
+
 
 def ask(folder: str, line: str) -> str:
     """Sends a line to the mount that a folder is in, and returns the answer."""
@@ -20,9 +24,24 @@ def ask(folder: str, line: str) -> str:
     return b"".join(parts).decode("utf-8", "surrogateescape")
 
 
-def undo_line(folder: str, text: str, words: list[str]) -> list[str]:
-    """Returns the words of a line that undoes or restores, with the path as the store spells it. `text` is the line as typed, if it was one
-    word: then the file's name may have spaces without quotes."""
+def typed_line(folder: str, text: str, words: list[str]) -> list[str]:
+    """Returns the words of a line with the paths as the store spells them: in a line of the mount's own all paths, and else those that
+    don't begin with a slash. `text` is the line as typed, if it was one word."""
+    word, rest = words[0], [it for it in words if it]
+    if word in _OF_FILES and len(rest) > 1 or word == "restore" and not (len(words) == 3 and words[1][:1] == "/" and words[2].isdigit()):
+        return _undo_line(folder, text, rest)
+    for at in _PATHS.get(word, ()):
+        if at < len(words) and (not words[at].startswith("/") or _is_below(os.path.abspath(words[at]), mount_of(folder))):
+            words[at] = _spelled(folder, words[at])
+    return words
+
+
+def _is_below(path: str, top: str) -> bool:
+    return path == top or path.startswith(f"{top}/")
+
+
+def _undo_line(folder: str, text: str, words: list[str]) -> list[str]:
+    """Does so for a line of one file or folder, whose name may have spaces without quotes if the line was typed as one word."""
     options = [it for it in words[1:] if it.startswith("--")]
     rest = [it for it in words[1:] if it not in options]
     if not rest:

@@ -17,11 +17,14 @@ from contextlib import suppress
 from typing import Optional
 from zlib import crc32
 
-from .. import BadName, ClockDoubt, ElephantError, Refused, read_time
+from .. import BadName, ClockDoubt, ElephantError, Refused
 from ..keeping import AT, NoSpace, require_shown, told_time
+from .marks import Marks
 from .names import name_in
 from .operations import Operations
+from .reasons import reason
 from .tree import Directory, File, Node
+from .typed import moment_in, moments_in, policy_word
 from .undo import Undo
 from .whereabouts import Nothing
 from .wording import as_bytes, spelled_path, words_of
@@ -39,6 +42,8 @@ _SHORT = frozenset(("clean", "default", "group", "mark", "pass", "policy", "unma
 # End of the lines.
 # Lines that may use what is kept back of the limits.
 _UNDOING = frozenset(("undo", "undelete", "revert", "restore"))
+# The place of the moment in lines that end with one.
+_OF_MOMENTS = {"unmark": 2, "ahead": 1}
 _MAKE = frozenset(("mkdir", "create", "link", "rename"))
 _OF_HANDLES = frozenset(("write", "truncate", "close", "abandon", "read"))
 # Lines that make a version of what a path names, and that may make the name. They are in no table of counts.
@@ -53,6 +58,7 @@ class Lines:
         self.operations = operations
         self.store, self.tree, self.contents = operations.store, operations.tree, operations.contents
         self.undo = Undo(self.store, self.tree, self.contents, operations.past.store_at)
+        self.marks = Marks(self.store, self.tree)
         self._is_of_one = False
         """Whether the last undo changed one name of a folder, and what is below it."""
         self.more: dict[str, Callable[[], str]] = {}
@@ -73,7 +79,7 @@ class Lines:
                     if self._restores_folder(words):
                         words[0] = "undo"
                     with self.store.quota.undoing(words[0] in _UNDOING):
-                        text = self._undo(words) if words[0] == "undo" else self._line(words)
+                        text = self._answer(words)
                 finally:  # the store may have done what the journal couldn't take
                     changes = [] if words[0] in _ASK | _SHORT else list(self._refreshed(words))
             except (ElephantError, Nothing, NoSpace, OSError, ValueError) as fault:
@@ -101,6 +107,27 @@ class Lines:
         if not isinstance(fault, ValueError):
             self.operations.errno_of(fault)
         return f"elephant-mount: {getattr(fault, 'strerror', None) or fault or type(fault).__name__}\n"
+
+    def _answer(self, words: list[str]) -> str:
+        """Returns the answer to a line of the mount's own or of the script language, as it is typed."""
+        word = words[0]
+        if word == "undo":
+            return self._undo(words)
+        if word == "mark" and len(words) > 2:
+            return self._mark(words[1], moments_in(words[2:], int(self.store.now)))
+        if word in _OF_MOMENTS and len(words) > _OF_MOMENTS[word]:
+            words[_OF_MOMENTS[word]:] = [str(moment_in(words[_OF_MOMENTS[word]:], int(self.store.now)))]
+        if word in ("policy", "default") and len(words) == 3:
+            words[2] = policy_word(words[2])
+        answer = self._line(words)
+        return f"{answer}- {reason(words)}\n" if answer.startswith("bad ") and reason(words) else answer
+
+    def _mark(self, group: str, moments: list[int]) -> str:
+        """Makes a mark, and says what it holds."""
+        answer = self._line(["mark", group, *map(str, moments)])
+        if not answer.startswith("ok "):
+            return answer
+        return f"{answer.rstrip()}: {self.marks.held(group.encode(), *moments)}\n"
 
     def _line(self, words: list[str]) -> str:
         word = words[0]
@@ -171,7 +198,7 @@ class Lines:
         words[1:] = [place.decode("ascii"), *moment]
         has_parent = isinstance(self.tree.find(place.rpartition(b"/")[0]), Directory)
         self._is_of_one = not moment and has_parent and not isinstance(self.tree.find(place), Directory)
-        asked = read_time(_with_sign(moment), int(self.store.now)).moment if moment else None
+        asked = moment_in(moment, int(self.store.now)) if moment else None
         return self.undo.run(place, asked, bool(options)) + (self._clock_note() if moment else "")
 
     def _as_shown(self, path: bytes) -> bytes:
@@ -188,11 +215,6 @@ class Lines:
         """Returns what a moment means while the clock is in doubt, or an empty text."""
         fault = self.store.clock_fault
         return f"- {fault}: moments are of the store's time, which is {told_time(int(self.store.now))}\n" if fault else ""
-
-
-def _with_sign(moment: list[str]) -> str:
-    """Returns the words of a moment as one text. A number alone means seconds, however small it is."""
-    return f"@{moment[0]}" if len(moment) == 1 and moment[0].isdigit() else " ".join(moment)
 
 
 class Control:

@@ -13,7 +13,7 @@ from typing import Optional
 
 from .. import ElephantError, JournalLocked, Limits
 from ..keeping import about
-from .client import ask, undo_line
+from .client import ask, typed_line
 from .wording import line_of, words_of
 
 _DESCRIPTION = "Mounts a folder that keeps each save of each file as a version, and sends lines to a mounted one."
@@ -79,9 +79,7 @@ def send(folder: str, words: list[str]) -> int:
     """Sends a line and prints its answer. The status is 0 if it was answered `ok`, else 1."""
     typed = words[0] if len(words) == 1 else ""
     try:
-        words = words_of(typed) if typed else list(words)
-        if words[0] == "undo" or words[0] == "restore" and not (len(words) == 3 and words[1][:1] == "/" and words[2].isdigit()):
-            words = undo_line(folder, typed, [it for it in words if it])
+        words = typed_line(folder, typed, words_of(typed) if typed else list(words))
         answer = ask(folder, line_of(words))
     except ValueError as fault:
         print(f"elephant-mount: {fault}", file=sys.stderr)

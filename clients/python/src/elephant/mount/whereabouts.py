@@ -3,9 +3,10 @@
 from __future__ import annotations
 
 from collections.abc import Iterator
+from contextlib import suppress
 from typing import Optional, Union
 
-from .. import DeletedName, Forgotten, Refused
+from .. import DeletedName, FileStat, Forgotten, Refused, Version
 from ..keeping import AT
 from .names import name_in, shown
 from .records import file_key
@@ -63,6 +64,31 @@ class Whereabouts:
             yield path, node
             if isinstance(node, Directory):
                 yield from self.files_below(node)
+
+    # Files by their numbers.
+
+    def asked(self, number: int) -> Optional[tuple[bytes, Optional[int]]]:
+        """Returns by which path, and as of which moment (None: now), the store is asked for a file, or None: a deleted one by its last
+        name."""
+        node, last = self.tree.files.get(number), self.store.departed.get(number)
+        if node is not None:
+            return node.path, None
+        return None if last is None else (last.path, max(last.ended - 1, last.closed))
+
+    def stat_of(self, number: int) -> Optional[FileStat]:
+        """Returns what the store says of a file, or None if no path leads to it: another file may have had its name for the rest of a
+        second."""
+        place = self.asked(number)
+        with suppress(Refused):
+            found = None if place is None else self.store.stat(place[0], at=place[1])
+            if isinstance(found, FileStat) and found.file == number:
+                return found
+        return None
+
+    def versions_of(self, number: int) -> list[Version]:
+        """Returns the held versions of a file, also of a deleted one."""
+        place = self.asked(number)
+        return [] if place is None or self.stat_of(number) is None else self.store.versions(place[0], at=place[1])
 
     # Deleted names.
 

@@ -1,0 +1,88 @@
+"""Lines that people type to a mounted folder: marks and policies; and why a line is bad."""
+
+from __future__ import annotations
+
+import argparse
+import random
+import re
+import subprocess
+import sys
+from pathlib import Path
+
+from mount.mounts import SOURCE, Counts, Mounted
+from mount.past import Faults
+from mount.programs import next_second
+from mount.rules import run_tests
+
+DATE = re.compile(r"\d{4}-\d\d-\d\d \d\d:\d\d:\d\d")
+SPAN = re.compile(r"\d{4}-\d\d-\d\d \d\d:\d\d:\d\d [+-]\d\d:\d\d")
+# Words of which lines are made up: most of them are wrong somewhere.
+FIRST = [
+    "clock", "tick", "mkdir", "create", "link", "write", "truncate", "save", "revert", "restore", "policy", "default", "group make",
+    "group add", "group", "mark", "unmark", "read", "stat", "versions", "list", "due", "pass", "why", "ahead", "gone", "open", "open read",
+    "open write", "ls", "cat", "rm", "mv", "Create", "close",
+]
+OTHERS = [
+    "/", "/f", "/d/f", "f", "/f@5", "/f#2", "/f#", "/f@", "/f#02", "/f@x", "/a//b", "/..", "/" + "n" * 65, "/n" * 33, "g", "g/h", "g@h",
+    "..", "0", "7", "007", "7d", "7-1", "2026-03-02", "2026-03-02T00:00:00Z", "2026-02-30T00:00:00Z", "253402300799", "253402300800",
+    "18446744073709551615", "18446744073709551616", "-", "00", "0", "0g", "abcd", "one", "all", "safe:60", "safe:0", "safe:60/16",
+    "safe:60/17", "safe:60/", "safe:x", "landmarks:60/60", "landmarks:60/60,60/60", "landmarks:60/60,120/90", "landmarks:",
+    "landmarks:60", "landmarks:0/1", "x", "", "landmarks:1/1,2/1,3/1,4/1,5/1,6/1,7/1,8/1,9/1",
+]
+MOST_WORDS = 4
+
+
+def lines(room: str, asked: argparse.Namespace) -> Counts:
+    """Policies and marks."""
+    seen = Faults("lines")
+    with Mounted(room, "--clean-every", "0") as mounted:
+        top = mounted.folder
+        (top / "d").mkdir()
+        (top / "d" / "my plan").write_text("one")
+        first = next_second()
+        (top / "d" / "my plan").write_text("two!!")
+        next_second()
+        _tell(seen, mounted, first)
+    return seen.counts()
+
+
+def _tell(seen: Faults, mounted: Mounted, first: int) -> None:
+    """A policy with units, and a mark by local time."""
+    name = "d/my plan"
+    seen.expect("a policy", mounted.ask("policy", name, "safe:1h"), "ok done\n")
+    seen.expect("a bad one", mounted.ask("policy", name, "safe:60/17"), "bad 31 BadLadder\n- word 3: a floor is at most 16 versions\n")
+    for words in (("group", "make", "g"), ("group", "add", "g", name)):
+        seen.expect(" ".join(words), mounted.ask(*words), "ok done\n")
+    local = DATE.search(mounted.ask("undo", "--dry-run", name, f"@{first}"))
+    answer = mounted.ask("mark", "g", local[0] if local else "")
+    held = "ok done: it holds 1 version of 1 of the group's 1 file, as of MOMENT, for good\n"
+    seen.expect("a mark", SPAN.sub("MOMENT", answer), held)
+
+
+def reasons(room: str, asked: argparse.Namespace) -> Counts:
+    """The mount says why a line is bad as the program does with `--explain`."""
+    sys.path.insert(0, str(SOURCE))
+    from elephant.mount.reasons import NO_SUCH, reason
+
+    if not Path(asked.program).is_file():
+        print(f"mount: reasons: there is no {asked.program}: './elephant prove' builds it")
+        return 1, 1
+    seen, chance = Faults("reasons"), random.Random(asked.seed)
+    count = 20_000 if asked.long else 4_000
+    made = [" ".join([chance.choice(FIRST), *chance.choices(OTHERS, k=chance.randrange(MOST_WORDS))]) for _ in range(count)]
+    words = [asked.program, "run", "--numbers", "--explain"]
+    ran = subprocess.run(words, input="\n".join(made) + "\n", capture_output=True, text=True, check=False)
+    told = {int(number): why for number, why in re.findall(r"(?m)^elephant: line (\d+), (.*)$", ran.stderr)}
+    for number, line in enumerate(made, 1):
+        wanted = told.get(number, "").replace("there is no such command: elephant help script lists all", NO_SUCH)
+        seen.expect(f"{line!r}", reason(line.split(" ")), wanted)
+    seen.expect("lines of both kinds", 100 < len(told) < len(made) - 100, True)
+    return seen.counts()
+
+
+def typed(room: str, asked: argparse.Namespace) -> Counts:
+    """The client's tests of these lines, by the Python that has pyfuse3."""
+    return run_tests("typed", ["test_mount_lines", "test_mount_typed"])
+
+
+CHECKS = [lines, reasons, typed]
