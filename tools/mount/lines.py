@@ -1,4 +1,4 @@
-"""Lines that people type to a mounted folder: marks and policies; and why a line is bad."""
+"""Lines that people type to a mounted folder: marks, policies, undo and redo; and why a line is bad."""
 
 from __future__ import annotations
 
@@ -33,7 +33,7 @@ MOST_WORDS = 4
 
 
 def lines(room: str, asked: argparse.Namespace) -> Counts:
-    """Policies and marks."""
+    """Policies, marks, undo and redo."""
     seen = Faults("lines")
     with Mounted(room, "--clean-every", "0") as mounted:
         top = mounted.folder
@@ -43,6 +43,7 @@ def lines(room: str, asked: argparse.Namespace) -> Counts:
         (top / "d" / "my plan").write_text("two!!")
         next_second()
         _tell(seen, mounted, first)
+        _undo(seen, mounted, top / "d" / "my plan")
     return seen.counts()
 
 
@@ -57,6 +58,21 @@ def _tell(seen: Faults, mounted: Mounted, first: int) -> None:
     answer = mounted.ask("mark", "g", local[0] if local else "")
     held = "ok done: it holds 1 version of 1 of the group's 1 file, as of MOMENT, for good\n"
     seen.expect("a mark", SPAN.sub("MOMENT", answer), held)
+
+
+def _undo(seen: Faults, mounted: Mounted, place: Path) -> None:
+    place.write_text("three")
+    found = []
+    for line in ("undo d/my plan", "undo d/my plan", "redo d/my plan", "redo d/my plan", "undo d/my plan #2"):
+        answer = mounted.ask(line)
+        found.append((answer.partition(" held,")[0], place.read_text()))
+    seen.expect("undo and redo", found, [
+        ("ok version 5: what version 3", "two!!"), ("ok version 6: what version 2", "one"), ("ok version 7: what version 3", "two!!"),
+        ("ok version 8: what version 4", "three"), ("ok version 9: what version 2", "one"),
+    ])
+    mounted.stop()
+    mounted.start()
+    seen.expect("an undo after another mount", (mounted.ask("undo", "d/my plan")[:12], place.read_text()), ("ok version 1", "three"))
 
 
 def reasons(room: str, asked: argparse.Namespace) -> Counts:

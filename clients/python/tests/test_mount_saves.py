@@ -128,7 +128,7 @@ class Ways(Undoing):
                 self.check(way)
                 self.assertRegex(self.undo(b"/f"), "^ok version ")
                 self.assertEqual(self.it.read(b"f").decode(), way.undone)
-                self.undo(b"/f")
+                self.redo(b"/f")
                 self.assertEqual(self.it.read(b"f"), b"two")
                 self.it.close()
 

@@ -11,7 +11,7 @@ from typing import Optional
 
 from elephant import BadTime
 from elephant.mount.reasons import TAKES, reason
-from elephant.mount.typed import moments_in, policy_word
+from elephant.mount.typed import moment_in, moments_in, policy_word, version_in
 
 SCRIPT = Path(__file__).resolve().parents[3] / "docs" / "SCRIPT.md"
 DAY, HOUR = 86_400, 3600
@@ -65,6 +65,12 @@ class Words(Berlin):
         for words in (["soon"], ["yesterday"], ["2026-11-29", "until"], ["now", "now", "now"], ["until", "now"]):
             with self.assertRaises(BadTime, msg=words):
                 moments_in(words, NOW)
+
+    def test_a_small_number_is_a_moment_and_a_version_has_a_sign(self) -> None:
+        self.assertEqual((moment_in(["7"], NOW), version_in(["#7"]), version_in(["#12"])), (7, 7, 12))
+        others: list[list[str]] = [["7"], ["#07"], ["#"], ["#7", "#8"], [], ["f#7"]]
+        for words in others:
+            self.assertIsNone(version_in(words), words)
 
 
 class Reasons(unittest.TestCase):

@@ -50,6 +50,13 @@ class Undoing(Case):
             list(it.tree.refresh())
         return text
 
+    def redo(self, path: bytes) -> str:
+        it = self.it
+        text = Undo(it.store, it.tree, it.contents).redo(path, False)
+        with it.store.together():
+            list(it.tree.refresh())
+        return text
+
     def refusal(self, path: bytes, moment: Optional[int] = None) -> str:
         before = self.it.all()
         with self.assertRaises(Nothing) as caught:
@@ -116,14 +123,14 @@ class Undoing(Case):
 
 
 class Saves(Undoing):
-    def test_a_save_and_an_undo_are_undone(self) -> None:
+    def test_a_save_is_undone_and_comes_back(self) -> None:
         it = self.mount()
         for text in (b"one", b"two"):
             it.save(b"f", text)
             self.later()
         self.assertRegex(self.undo(b"/f"), r"^ok version 4: what version 2 held, saved 2033-05-1[78] .*\n$")
         self.assertEqual(it.read(b"f"), b"one")
-        self.assertRegex(self.undo(b"/f"), "^ok version 5: what version 3 held")
+        self.assertRegex(self.redo(b"/f"), "^ok version 5: what version 3 held")
         self.assertEqual(it.read(b"f"), b"two")
 
     def test_a_dry_run_changes_nothing(self) -> None:
@@ -167,7 +174,7 @@ class Saves(Undoing):
         told = self.undo(b"/f")
         self.assertRegex(told, "^ok version 3: what version 3 of an earlier file of that name held, saved .*, and the name until ")
         self.assertEqual(it.read(b"f"), b"one")
-        self.undo(b"/f")
+        self.redo(b"/f")
         self.assertEqual(it.read(b"f"), b"oops")
 
     def test_what_an_earlier_file_held_before_it_held_the_same(self) -> None:

@@ -9,9 +9,10 @@ from contextlib import suppress
 
 from .. import BadTime, read_time
 from .names import spelled
+from .typed import version_in
 
 # Lines of the mount's own that take one file or folder, and the places of the paths in others.
-_OF_FILES = ("undo",)
+_OF_FILES = ("undo", "redo")
 _PATHS = {"policy": (1,), "default": (1,), "why": (1,), "versions": (1,), "group": (3,)}
 
 
@@ -58,6 +59,8 @@ def _file_and_moment(folder: str, words: list[str]) -> tuple[str, list[str]]:
         file = " ".join(words[:count])
         if os.path.lexists(file) or os.path.lexists(os.path.join(folder, file.lstrip("/"))):
             return file, words[count:]
+    if version_in(words[-1:]) is not None:
+        return " ".join(words[:-1]), words[-1:]
     for count in range(1, len(words)):
         with suppress(BadTime):
             read_time(" ".join(words[count:]), int(time.time()))

@@ -17,7 +17,7 @@ from typing import TYPE_CHECKING, NamedTuple
 
 from .. import LAST_MOMENT, ElephantError, JournalError
 from ..keeping import Core, Replay
-from .records import Attributes, Records
+from .records import Attributes, Records, file_key
 from .sharing import Sharing, compare_blocks
 
 if TYPE_CHECKING:
@@ -60,6 +60,7 @@ def _attributes(records: Records, of: Records) -> Iterator[bytes]:
         it = records.of(key)
         yield repr((key, it and plain(it))).encode()
     yield repr(sorted(records.announced.since.items())).encode()
+    yield repr(sorted((made, source) for made, source in records.undone.items() if file_key(made[0]) in of.by_key)).encode()
 
 
 def plain(it: Attributes) -> tuple[object, ...]:

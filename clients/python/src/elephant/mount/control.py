@@ -24,7 +24,7 @@ from .names import name_in
 from .operations import Operations
 from .reasons import reason
 from .tree import Directory, File, Node
-from .typed import moment_in, moments_in, policy_word
+from .typed import moment_in, moments_in, policy_word, version_in
 from .undo import Undo
 from .whereabouts import Nothing
 from .wording import as_bytes, spelled_path, words_of
@@ -41,7 +41,9 @@ _ASK = frozenset((
 _SHORT = frozenset(("clean", "default", "group", "mark", "pass", "policy", "unmark"))
 # End of the lines.
 # Lines that may use what is kept back of the limits.
-_UNDOING = frozenset(("undo", "undelete", "revert", "restore"))
+_UNDOING = frozenset(("undo", "redo", "undelete", "revert", "restore"))
+_OF_FILES = frozenset(("undo", "redo"))
+_TAKEN = {"undo": "a file or a folder, a moment or the number of a version, as '#3', if you like", "redo": "a file"}
 # The place of the moment in lines that end with one.
 _OF_MOMENTS = {"unmark": 2, "ahead": 1}
 _MAKE = frozenset(("mkdir", "create", "link", "rename"))
@@ -89,7 +91,7 @@ class Lines:
     def _refreshed(self, words: list[str]) -> Iterator[tuple[Node, Optional[bytes]]]:
         """Brings the tree up to date with what a line has done, as one change of the journal."""
         with self.store.together():
-            yield from self._one_refreshed(words[1]) if words[0] == "undo" and self._is_of_one else self.tree.refresh()
+            yield from self._one_refreshed(words[1]) if words[0] in _OF_FILES and self._is_of_one else self.tree.refresh()
 
     def _one_refreshed(self, path: str) -> Iterator[tuple[Node, Optional[bytes]]]:
         parent, _, spelling = as_bytes(path).rpartition(b"/")
@@ -111,7 +113,7 @@ class Lines:
     def _answer(self, words: list[str]) -> str:
         """Returns the answer to a line of the mount's own or of the script language, as it is typed."""
         word = words[0]
-        if word == "undo":
+        if word in _OF_FILES:
             return self._undo(words)
         if word == "mark" and len(words) > 2:
             return self._mark(words[1], moments_in(words[2:], int(self.store.now)))
@@ -187,17 +189,24 @@ class Lines:
             return False
 
     def _undo(self, words: list[str]) -> str:
-        """Brings back what a file or a folder was before its last change, or at a moment."""
+        """Brings back what a file or a folder was before its last change, or at a moment, or what an undo has taken back."""
         self._is_of_one = False
         options = [it for it in words[1:] if it.startswith("--")]
         path, *moment = [it for it in words[1:] if it not in options] or [""]
         if not path.startswith("/") or options not in ([], ["--dry-run"]):
-            raise ValueError("undo takes a file or a folder, a moment if you like, and --dry-run")
+            raise ValueError(f"{words[0]} takes {_TAKEN[words[0]]}, and --dry-run")
         self.operations.require_writable()
         place = self._as_shown(as_bytes(path))
         words[1:] = [place.decode("ascii"), *moment]
         has_parent = isinstance(self.tree.find(place.rpartition(b"/")[0]), Directory)
-        self._is_of_one = not moment and has_parent and not isinstance(self.tree.find(place), Directory)
+        number = version_in(moment)
+        self._is_of_one = (not moment or number is not None) and has_parent and not isinstance(self.tree.find(place), Directory)
+        if words[0] == "redo":
+            if moment:
+                raise ValueError(f"redo takes {_TAKEN['redo']}, and --dry-run")
+            return self.undo.redo(place, bool(options))
+        if number is not None:
+            return self.undo.to_version(place, number, bool(options))
         asked = moment_in(moment, int(self.store.now)) if moment else None
         return self.undo.run(place, asked, bool(options)) + (self._clock_note() if moment else "")
 

@@ -8,6 +8,8 @@ The store's journal stores them, as remarks:
     # attr f12 100644 0 0 NS NS NS        file 12: mode, owner, group, times of access, content and attributes
     # xattr f12 NS 757365722e61 =6f6e65   file 12 has the extended attribute user.a with the value one, both in hexadecimal
     # xattr f12 NS 757365722e61           file 12 has lost the attribute, and without a name it has none
+    # undone f12 7 3 0                    version 7 of file 12 is what an undo or a redo brought back: what version 3 held, or, with a
+                                          moment in place of 0, version 3 of the file that had the name until then
 
 The remarks `due` and `undue` are those of the guard: see _guard.py of the package.
 
@@ -27,6 +29,8 @@ from typing import Optional
 from ..keeping import Announced
 
 _COARSE = 5  # CLOCK_REALTIME_COARSE
+State = tuple[int, int]
+"""What a name held: the number of a version, and 0, or until when another file had the name whose version it is."""
 FILE_MODE, DIRECTORY_MODE = stat.S_IFREG | 0o644, stat.S_IFDIR | 0o755
 
 
@@ -104,12 +108,19 @@ def everything(key: int, it: Attributes) -> list[bytes]:
     return [whole(key, it), none, *(extended(key, it.ctime, name, value) for name, value in (it.extended or {}).items())]
 
 
+def undone(file: int, version: int, source: State) -> bytes:
+    """Returns the remark of a version that an undo or a redo has made."""
+    return b"# undone %b %d %d %d" % (word_of(file_key(file)), version, *source)
+
+
 class Records:
     """The attributes of all files and directories that ever existed, by key."""
 
     def __init__(self) -> None:
         self.by_key: dict[int, Attributes] = {}
         self.announced = Announced()
+        self.undone: dict[tuple[int, int], State] = {}
+        """By the numbers of a file and of a version that an undo or a redo has made: what it brought back."""
 
     def apply(self, remark: bytes) -> None:
         """Applies a remark of the journal. It passes over remarks of other programs."""
@@ -132,6 +143,9 @@ class Records:
             self._extended(key_of(rest[0]), int(rest[1]), rest[2:])
         elif word in (b"due", b"undue"):
             self.announced.apply([word, *rest])
+        elif word == b"undone":
+            version, source, until = map(int, rest[1:])
+            self.undone[key_of(rest[0]) >> 1, version] = source, until
 
     def _made(self, rest: list[bytes]) -> None:
         now = int(rest[5])

@@ -19,7 +19,7 @@ from typing import NamedTuple
 from .. import ElephantError, JournalError, Limits
 from ..keeping import Core, Journal, Replay, changes_in, write_lines
 from .comparing import Side, compare
-from .records import everything, file_key
+from .records import everything, file_key, undone
 from .sharing import SLOT, Draft, Sharing, Version
 from .witness import OF_NAMES
 
@@ -236,6 +236,7 @@ def _write(old: str, size: int, shortening: Shortening, journal: Journal, census
     announced = census.records.announced
     announced.drop(announced.since.keys() - census.contents.keys())
     remarks += announced.remarks()
+    remarks += [undone(*made, source) for made, source in census.records.undone.items() if file_key(made[0]) in files]
     for start in range(0, len(remarks), REMARKS_AT_ONCE):
         journal.append(remarks[start:start + REMARKS_AT_ONCE])
     journal.sync()

@@ -1,15 +1,17 @@
-"""Words as people type them, in a line of the mount: moments in local time, and policies with units."""
+"""Words as people type them, in a line of the mount: moments in local time, policies with units, and the number of a version."""
 
 from __future__ import annotations
 
 import re
 from collections.abc import Iterator, Sequence
 from contextlib import suppress
+from typing import Optional
 
 from .. import BadTime, Landmarks, read_time
 
 _UNITS = {"s": 1, "m": 60, "h": 3600, "d": 86_400, "w": 604_800, "y": 31_536_000}
 _LENGTH = re.compile(r"(?<![0-9a-z])([1-9][0-9]{0,11})([smhdwy])(?![0-9a-z])")
+_VERSION = re.compile(r"#(0|[1-9][0-9]{0,18})")
 UNTIL = "until"
 
 
@@ -20,6 +22,12 @@ def policy_word(word: str) -> str:
     if not word.startswith(("safe:", "landmarks:")):
         return word
     return _LENGTH.sub(lambda it: str(int(it[1]) * _UNITS[it[2]]), word)
+
+
+def version_in(words: Sequence[str]) -> Optional[int]:
+    """Returns the number of a version that words are, as `#3`, or None."""
+    found = _VERSION.fullmatch(words[0]) if len(words) == 1 else None
+    return None if found is None else int(found[1])
 
 
 def moment_in(words: Sequence[str], now: int) -> int:

@@ -7,7 +7,6 @@ import errno
 from collections.abc import Callable, Iterable, Iterator
 from contextlib import suppress
 from functools import cache
-from itertools import chain
 from typing import NamedTuple, Optional, Union
 
 from .. import DeletedName, Forgotten, Refused
@@ -15,6 +14,7 @@ from ..keeping import AT, VERSION, told_time
 from .chronicle import begin_of_last
 from .contents import Contents
 from .plans import Plan, Step
+from .records import State, undone
 from .steps import Steps
 from .store import MountStore
 from .then import Then
@@ -38,6 +38,10 @@ class Held(NamedTuple):
     content: bytes
     closed: int
     until: int = 0
+
+    @property
+    def state(self) -> State:
+        return self.version, self.until
 
 
 class Undo:
@@ -83,7 +87,44 @@ class Undo:
             kind = "a symbolic link" if node.attributes.is_link else "no regular file"
             raise Nothing(f"{told(path)} is {kind}, and has no saves: with a moment, undo makes it again as it was then")
         self.require_no_writer(node)
-        found = self._different(path, node)
+        return self._bring(path, node, self._different(path, node), is_dry)
+
+    def redo(self, path: bytes, is_dry: bool) -> str:
+        """Brings back what the last undo of a file has taken back. Raises Nothing if there is nothing."""
+        node = self.tree.find(path)
+        if not isinstance(node, File):
+            raise Nothing(f"redo is for a file, and {told(path)} is {'a folder' if node is not None else 'none'}")
+        self.require_no_writer(node)
+        last, position = self._last_save(node), self._position(node)
+        if position == last:
+            raise Nothing(f"{told(path)} is as it was saved last: there is nothing to redo")
+        passed = [last]
+        for state in self._states_before(path, node, last):
+            if self._source_of(node, state) == position:
+                break
+            passed.append(state)
+        content = self.contents.whole(node)
+        for state in reversed(passed):
+            found = self._held(path, node, state)
+            if found.content != content:
+                return self._bring(path, node, found, is_dry)
+        raise Nothing(f"{told(path)} holds what it held when it was saved last: there is nothing to redo")
+
+    def to_version(self, path: bytes, number: int, is_dry: bool) -> str:
+        """Makes what a version of a file held its next version."""
+        node = self.tree.find(path)
+        if not isinstance(node, File):
+            raise Nothing(f"{told(path)} is {'a folder' if node is not None else 'no file now'}, and #{number} is a version of a file")
+        self.require_no_writer(node)
+        if not 1 <= number <= node.version:
+            raise Nothing(f"{told(path)} has no version {number}: its newest is {node.version}")
+        text = f"what version {number} held, saved {told_time(self._own(path, number).closed)}"
+        if is_dry:
+            return f"ok would make a version of {text}\n"
+        return f"ok version {self.store.revert(path, number)}: {text}\n"
+
+    def _bring(self, path: bytes, node: File, found: Held, is_dry: bool) -> str:
+        """Makes what a name held the file's next version, and notes which state this is: the next undo goes on from there."""
         what = f"what version {found.version} of an earlier file of that name held" if found.until else f"what version {found.version} held"
         until = f", and the name until {told_time(found.until)}" if found.until else ""
         text = f"{what}, saved {told_time(found.closed)}{until}"
@@ -94,26 +135,65 @@ class Undo:
                 version = self.store.drafts.save(path, found.content)
             else:
                 version = self.store.revert(path, found.version)
+            remark = undone(node.number, version, found.state)
+            self.store.keep(remark)
+            self.store.records.apply(remark[2:])
         return f"ok version {version}: {text}\n"
 
+    def _last_save(self, node: File) -> State:
+        """Returns the newest version of a file that no undo has made."""
+        number = node.version
+        while (node.number, number) in self.store.records.undone:
+            number -= 1
+        return number, 0
+
+    def _position(self, node: File) -> State:
+        """Returns the state that a file is in now: what the last undo brought back, or its newest version."""
+        return self._source_of(node, (node.version, 0))
+
+    def _source_of(self, node: File, state: State) -> State:
+        """Returns the state that undos brought back as a state."""
+        while not state[1] and (node.number, state[0]) in self.store.records.undone:
+            state = self.store.records.undone[node.number, state[0]]
+        return state
+
+    def _states_before(self, path: bytes, node: File, position: State) -> Iterator[State]:
+        """Yields the states of a name before one, the newest first: of its file, without what was undone before a later save, and then of
+        earlier files. Version 1 is no save: it is how a file begins."""
+        number, until = position
+        while not until and number > 2:
+            yield number - 1, 0
+            number, until = self._source_of(node, (number - 1, 0))
+        earlier = (it.state for it in self._earlier(path, node))
+        if until:
+            next((it for it in earlier if it == (number, until)), None)
+        yield from earlier
+
+    def _held(self, path: bytes, node: File, state: State) -> Held:
+        """Returns what a name held. Raises Nothing if it was removed."""
+        number, until = state
+        return self._own(path, number) if not until else next(it for it in self._earlier(path, node) if it.state == state)
+
     def _different(self, path: bytes, node: File) -> Held:
-        """Returns what a name held last that differs from what it holds. Raises Nothing if that was removed, or if it held nothing else."""
-        content = self.contents.whole(node)
-        for found in chain(self._own(path, node), self._earlier(path, node)):
+        """Returns what a name held before its state of now that differs from it. Raises Nothing if that was removed, or if it held nothing
+        else."""
+        content, position = self.contents.whole(node), self._position(node)
+        for state in self._states_before(path, node, position):
+            found = self._held(path, node, state)
             if found.content != content:
                 return found
+        if position != self._last_save(node):
+            raise Nothing(f"{told(path)} held nothing else before: redo goes forward again")
         raise Nothing(f"{told(path)} was never changed since it was made, and no file had this name before that held something else")
 
-    def _own(self, path: bytes, node: File) -> Iterator[Held]:
-        """Yields the versions of a file before its current one, the newest first. Version 1 is no save: it is how a file begins."""
-        for number in range(node.version - 1, 1, -1):
-            try:
-                row = self.store.stat_row(path, VERSION, number)
-            except Forgotten as fault:
-                last = f"the newest before it that is held is version {fault.last}" if fault.last and fault.last > 1 else "none is held"
-                raise Nothing(f"version {number} of {told(path)}, which it held before, was removed by its policy: {last}") from None
-            closed = row.closed
-            yield Held(number, self.store.content(path, VERSION, number), closed)
+    def _own(self, path: bytes, number: int) -> Held:
+        """Returns what a version of the file of a path held. Raises Nothing if it was removed."""
+        try:
+            closed = self.store.stat_row(path, VERSION, number).closed
+        except Forgotten as fault:
+            last = f"the newest before it that is held is version {fault.last}" if fault.last and fault.last > 1 else "none is held"
+            raise Nothing(f"version {number} of {told(path)}, which it held before, was removed by its policy: {last}") from None
+        return Held(number, self.store.content(path, VERSION, number), closed)
 
     def _earlier(self, path: bytes, node: File) -> Iterator[Held]:
         """Yields what earlier files held that had the name, the newest first."""
