@@ -1,8 +1,9 @@
-"""Lines that people type to a mounted folder: marks, policies, undo and redo; and why a line is bad."""
+"""Lines that people type to a mounted folder: one file's story, marks, policies, undo and redo; and why a line is bad."""
 
 from __future__ import annotations
 
 import argparse
+import json
 import random
 import re
 import subprocess
@@ -32,8 +33,12 @@ OTHERS = [
 MOST_WORDS = 4
 
 
+def dated(text: str) -> str:
+    return DATE.sub("DATE", text)
+
+
 def lines(room: str, asked: argparse.Namespace) -> Counts:
-    """Policies, marks, undo and redo."""
+    """What people ask of the past of files, and undo and redo."""
     seen = Faults("lines")
     with Mounted(room, "--clean-every", "0") as mounted:
         top = mounted.folder
@@ -48,7 +53,7 @@ def lines(room: str, asked: argparse.Namespace) -> Counts:
 
 
 def _tell(seen: Faults, mounted: Mounted, first: int) -> None:
-    """A policy with units, and a mark by local time."""
+    """A policy with units, a mark by local time, and the story of the file."""
     name = "d/my plan"
     seen.expect("a policy", mounted.ask("policy", name, "safe:1h"), "ok done\n")
     seen.expect("a bad one", mounted.ask("policy", name, "safe:60/17"), "bad 31 BadLadder\n- word 3: a floor is at most 16 versions\n")
@@ -58,6 +63,17 @@ def _tell(seen: Faults, mounted: Mounted, first: int) -> None:
     answer = mounted.ask("mark", "g", local[0] if local else "")
     held = "ok done: it holds 1 version of 1 of the group's 1 file, as of MOMENT, for good\n"
     seen.expect("a mark", SPAN.sub("MOMENT", answer), held)
+    rows = [dated(it) for it in mounted.ask("history", name).splitlines()]
+    seen.expect("the story", rows, [
+        f"ok {name}: 3 versions, 3 of them held; policy safe:3600",
+        "version  saved                ended                    bytes",
+        "      1  DATE  DATE          0  kept until DATE: 1 hour after its end",
+        "      2  DATE  DATE          3  kept for good by the mark g of DATE",
+        "      3  DATE  -                            5  current",
+    ])
+    data = json.loads(mounted.ask("history", name, "--json"))
+    seen.expect("for programs", [(it["number"], it["length"], it["fate"]["is"]) for it in data["versions"]],
+                [(1, 0, "kept"), (2, 3, "marked"), (3, 5, "current")])
 
 
 def _undo(seen: Faults, mounted: Mounted, place: Path) -> None:

@@ -1,10 +1,11 @@
-"""The lines of a mount that people type: marks, policies, undo and redo. Without a kernel, by a clock that a test moves. It needs
-pyfuse3."""
+"""The lines of a mount that people type: marks, policies, undo and redo, and the story of a file. Without a kernel, by a clock that a test
+moves. It needs pyfuse3."""
 
 from __future__ import annotations
 
 import contextlib
 import io
+import json
 import tempfile
 import unittest
 from collections.abc import Iterator
@@ -22,11 +23,18 @@ from elephant.mount import client, main
 from elephant.mount.control import Lines
 from elephant.mount.operations import Operations
 from elephant.mount.shorter import shorten
-from test_mount import MEMORY, Mounted
+from test_mount import FOLDER, MEMORY, Mounted
 from test_mount_typed import Berlin
 from test_removal import Said
 
 HOUR = 3600
+
+
+def told(moment: int) -> str:
+    """Returns how the log tells a moment of 2026-11-29 and the days after it in Berlin, which is an hour ahead of UTC then."""
+    seconds = moment - (START - 9 * HOUR) + HOUR
+    day, rest = divmod(seconds, DAY)
+    return f"2026-{'11-%02d' % (29 + day) if day < 2 else '12-%02d' % (day - 1)} {rest // HOUR:02}:{rest % HOUR // 60:02}:{rest % 60:02}"
 
 
 class Case(Berlin):
@@ -237,6 +245,115 @@ class Undoing(Case):
         self.it.contents.closed(node, True)
 
 
+class Telling(Case):
+    def rows(self, path: str) -> list[dict[str, Any]]:
+        answer = self.ask(f"history {path} --json")
+        self.assertEqual(answer[:3], "ok\n")
+        found: dict[str, Any] = json.loads(answer[3:])
+        rows: list[dict[str, Any]] = found["versions"]
+        return rows
+
+    def test_a_file_with_each_fate(self) -> None:
+        self.save(b"f", b"one", b"two" * 500, b"three", b"four")
+        for line in ("policy /f safe:1h", "group make legal", "group add legal /f", "mark legal 2026-11-29 10:00:15 until 2026-12-01",
+                     f"mark legal {START + 25}"):
+            self.assertRegex(self.ask(line), "^ok")
+        with self.assertRaises(AssertionError):
+            self.assertRegex(self.ask("history /f"), "due since")
+        self.clocks.pass_by(2 * HOUR)
+        self.save(b"f", b"five")
+        self.assertEqual(self.it.store.clean(), (START + HOUR, 1, 1))
+        day = "2026-11-29"
+        self.assertEqual(self.ask("history /f").splitlines(), [
+            "ok f: 6 versions, 5 of them held; policy safe:3600",
+            "version  saved                ended                    bytes",
+            f"      1  -                    -                            -  removed {day} 12:00:50, due since {day} 11:00:00",
+            f"      2  {day} 10:00:00  {day} 10:00:10          3  due since {day} 11:00:10: 1 hour after its end",
+            f"      3  {day} 10:00:10  {day} 10:00:20      1,500  kept until 2026-12-01 00:00:00 by the mark legal of {day} 10:00:15",
+            f"      4  {day} 10:00:20  {day} 10:00:30          5  kept for good by the mark legal of {day} 10:00:25",
+            f"      5  {day} 10:00:30  {day} 12:00:40          4  kept until {day} 13:00:40: 1 hour after its end",
+            f"      6  {day} 12:00:40  -                            4  current",
+        ])
+        self.again()
+        fates = [it["fate"] for it in self.rows("/f")]
+        self.assertEqual(fates, [
+            {"is": "removed", "moment": "2026-11-29T11:00:50Z", "since": "2026-11-29T10:00:00Z", "cause": None},
+            {"is": "due", "since": "2026-11-29T10:00:10Z", "cause": "1 hour after its end"},
+            {"is": "marked", "group": "legal", "at": "2026-11-29T09:00:15Z", "until": "2026-11-30T23:00:00Z"},
+            {"is": "marked", "group": "legal", "at": "2026-11-29T09:00:25Z", "until": None},
+            {"is": "kept", "until": "2026-11-29T12:00:40Z", "policy": "safe:3600"},
+            {"is": "current"},
+        ])
+
+    def test_a_reader_a_floor_a_ladder_and_all(self) -> None:
+        self.save(b"f", b"one", b"two", b"three")
+        for policy, wanted in (("safe:1h/3", "kept for good: one of the newest 3"), ("all", "kept for good: its policy keeps all")):
+            self.ask(f"policy /f {policy}")
+            self.assertIn(wanted, self.ask("history /f").splitlines()[4])
+        self.ask("policy /f landmarks:1h/1h")
+        self.assertRegex(self.ask("history /f").splitlines()[4], "kept until .*: a newer one was saved in the same hour$")
+        self.ask("policy /f one")
+        handle = self.it.store.drafts.open_reader(b"/f", 2, 2)
+        self.assertIn("kept while a program reads it", self.ask("history /f").splitlines()[3])
+        self.assertIn(": its policy keeps only the newest", self.ask("history /f").splitlines()[4])
+        self.it.store.drafts.close(handle)
+
+    def test_names_and_a_deleted_file(self) -> None:
+        self.save(b"f", b"one")
+        folder = self.it.naming.mkdir(self.it.top, b"my d", FOLDER, 0, 0)
+        self.assertNotIn("\nname ", self.ask("history /f"))
+        self.it.naming.rename(self.it.top, b"f", folder, b"g", 0)
+        self.clocks.pass_by(10)
+        self.it.naming.rename(self.it.top, b"my d", self.it.top, b"e", 0)
+        self.clocks.pass_by(10)
+        names = f"\nname f until {told(START + 10)}\nname e/g now\n"
+        self.assertTrue(self.ask("history /e/g").endswith(names), self.ask("history /e/g"))
+        self.it.naming.unlink(folder, b"g")
+        folder.left.clear()
+        self.ask("policy /e/g all")
+        answer = self.ask("history /e/g").splitlines()
+        self.assertRegex(answer[0], "^ok deleted e/g: 2 versions, 2 of them held; policy landmarks:")
+        self.assertRegex(answer[3], rf"^      2  {told(START)}  {told(START + 30)}          3  kept for good: the newest of its week$")
+        self.assertEqual(answer[4:], [f"name f until {told(START + 10)}", f"name e/g until {told(START + 30)}"])
+        self.assertEqual([it["fate"]["is"] for it in self.rows("/e/g")], ["kept", "kept"])
+
+    def test_names_that_lines_end(self) -> None:
+        self.save(b"f", b"one")
+        self.ask("unlink /f")
+        self.clocks.pass_by(10)
+        self.assertRegex(self.ask("history /f"), "^ok deleted f: 2 versions")
+        self.assertRegex(self.ask("undo /f"), r"^ok version 3: what it held when it was deleted, 2026-11-29 10:00:10 \+01:00\n$")
+        for line in ("rename /f /g", "rename /f /h", "unlink /f", "rmdir f", "unlink", "unlink /g/x", "unlink /a//b"):
+            self.assertEqual(self.ask(line) == "ok done\n", line == "rename /f /g", line)
+        names = f"\nname f until {told(START + 10)}\nname f until {told(START + 20)}\nname g now\n"
+        self.assertTrue(self.ask("history /g").endswith(names))
+        self.again()
+        self.assertTrue(self.ask("history /g").endswith(names))
+
+    def test_what_has_no_story(self) -> None:
+        self.it.naming.mkdir(self.it.top, b"d", FOLDER, 0, 0)
+        self.assertRegex(self.ask("history /d"), "^no: d is a folder")
+        self.assertEqual(self.ask("history /f"), "no: there is no file f, and none was deleted\n")
+        for line in ("history f", "history --json", "history /f --all", "history /f /g"):
+            self.assertIn("history takes a file, and --json", self.ask(line))
+
+    def test_removals_are_told_of_each_kind_of_line_and_after_another_mount(self) -> None:
+        self.save(b"f", b"one", b"two", b"three", b"four")
+        self.ask("policy /f safe:1h")
+        self.clocks.pass_by(DAY)
+        now = int(self.clocks.day)
+        self.assertEqual(self.ask("clean"), f"ok removed {START + HOUR} 1 1\n")
+        self.assertEqual(self.ask("pass 2"), "ok pass budget 2\n")
+        self.assertEqual(self.ask("pass 9"), "ok pass finished 1\n")
+        self.assertEqual(self.ask("clean"), "ok nothing\n")
+        wanted = {1: (now, START + HOUR), 2: (now, START + 10 + HOUR), 3: (now, START + 20 + HOUR), 4: (now, START + 30 + HOUR)}
+        self.assertEqual(self.it.store.removals.of(1), wanted)
+        self.again()
+        self.assertEqual(self.it.store.removals.of(1), wanted)
+        self.assertEqual(self.ask("why /f 3"), f"no 13 Forgotten -\n- removed {told(now)}, due since {told(START + 20 + HOUR)}\n")
+        self.assertEqual(self.ask(f"why /f@{START + 15}"), "no 13 Forgotten -\n")
+
+
 class Typing(unittest.TestCase):
     """What the command sends."""
 
@@ -276,11 +393,17 @@ class Typing(unittest.TestCase):
             (("undo d/my plan #2",), "undo /d/my%20plan '#2'"),
             (("undo", "d/my plan", "#2"), "undo /d/my%20plan '#2'"),
             (("undo a deleted one #2",), "undo /a%20deleted%20one '#2'"),
+            (("history d/my plan --json",), "history --json /d/my%20plan"),
+            (("history",), "history"),
             (("mark", "g", "2026-11-29 10:00"), "mark g '2026-11-29 10:00'"),
             (("restore", "/f", "1795942800"), "restore /f 1795942800"),
         ):
             sent, status, _ = self.send(*words)
             self.assertEqual((sent.replace("'#2'", "#2"), status), (wanted.replace("'#2'", "#2"), 0), words)
+
+    def test_json_is_printed_alone(self) -> None:
+        self.assertEqual(self.send("history", "--json", "d", answer='ok\n{"a": 1}\n')[1:], (0, '{"a": 1}\n'))
+        self.assertEqual(self.send("history", "--json", "d", answer="no: d is a folder\n")[1:], (1, "no: d is a folder\n"))
 
 
 if __name__ == "__main__":

@@ -1,4 +1,4 @@
-"""Words as people type them in a line of the mount, and why a line is bad: without a kernel and a store."""
+"""Words as people type them in a line of the mount, why a line is bad, and which versions were removed: without a kernel and a store."""
 
 from __future__ import annotations
 
@@ -11,6 +11,7 @@ from typing import Optional
 
 from elephant import BadTime
 from elephant.mount.reasons import TAKES, reason
+from elephant.mount.timeline import Removals
 from elephant.mount.typed import moment_in, moments_in, policy_word, version_in
 
 SCRIPT = Path(__file__).resolve().parents[3] / "docs" / "SCRIPT.md"
@@ -133,6 +134,16 @@ class Reasons(unittest.TestCase):
             ("nonsense", "word 1: there is no such line: elephant-mount --help lists them"),
         ):
             self.assertEqual(reason(line.split(" ")), wanted, line)
+
+
+class Timeline(unittest.TestCase):
+    def test_removals_of_a_file(self) -> None:
+        removals = Removals()
+        removals.note(7, 2, 500, 400)
+        removals.note(8, 1, 600, 450)
+        removals.note(7, 3, 700, 650)
+        self.assertEqual(removals.of(7), {2: (500, 400), 3: (700, 650)})
+        self.assertEqual(removals.of(9), {})
 
 
 if __name__ == "__main__":

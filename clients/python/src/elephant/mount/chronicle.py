@@ -21,6 +21,7 @@ class Chronicle:
         self._ends: dict[int, dict[bytes, list[int]]] = {}
         self._moved: set[tuple[int, bytes]] = set()
         self._places: dict[int, list[Place]] = {}
+        self._names: dict[int, list[Place]] = {}
 
     def end(self, parent: int, name: bytes, directory: Optional[int], now: int, is_moved: bool) -> None:
         """Notes that a name ends, which directory had it, if one had, and whether what had it goes on under another name."""
@@ -28,6 +29,14 @@ class Chronicle:
         (self._moved.add if is_moved else self._moved.discard)((parent, name))
         if directory is not None:
             self._places.setdefault(directory, []).append(Place(now, parent, name))
+
+    def end_of_file(self, file: int, parent: int, name: bytes, now: int) -> None:
+        """Notes that a name of a file ends."""
+        self._names.setdefault(file, []).append(Place(now, parent, name))
+
+    def names_of(self, file: int) -> list[Place]:
+        """Returns the names that a file had, in the order in which they ended."""
+        return self._names.get(file, [])
 
     def note_moved(self, parent: int, name: bytes) -> None:
         """Notes that what had a name, which has ended, goes on under another one."""

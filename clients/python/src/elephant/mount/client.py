@@ -12,7 +12,7 @@ from .names import spelled
 from .typed import version_in
 
 # Lines of the mount's own that take one file or folder, and the places of the paths in others.
-_OF_FILES = ("undo", "redo")
+_OF_FILES = ("undo", "redo", "history")
 _PATHS = {"policy": (1,), "default": (1,), "why": (1,), "versions": (1,), "group": (3,)}
 
 

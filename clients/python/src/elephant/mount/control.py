@@ -19,10 +19,12 @@ from zlib import crc32
 
 from .. import BadName, ClockDoubt, ElephantError, Refused
 from ..keeping import AT, NoSpace, require_shown, told_time
+from .log import local
 from .marks import Marks
 from .names import name_in
 from .operations import Operations
 from .reasons import reason
+from .story import Stories
 from .tree import Directory, File, Node
 from .typed import moment_in, moments_in, policy_word, version_in
 from .undo import Undo
@@ -60,7 +62,7 @@ class Lines:
         self.operations = operations
         self.store, self.tree, self.contents = operations.store, operations.tree, operations.contents
         self.undo = Undo(self.store, self.tree, self.contents, operations.past.store_at)
-        self.marks = Marks(self.store, self.tree)
+        self.marks, self.stories = Marks(self.store, self.tree), Stories(self.store, self.tree)
         self._is_of_one = False
         """Whether the last undo changed one name of a folder, and what is below it."""
         self.more: dict[str, Callable[[], str]] = {}
@@ -115,6 +117,8 @@ class Lines:
         word = words[0]
         if word in _OF_FILES:
             return self._undo(words)
+        if word == "history" and len(words) > 1:
+            return self.stories.answer(words[1:])
         if word == "mark" and len(words) > 2:
             return self._mark(words[1], moments_in(words[2:], int(self.store.now)))
         if word in _OF_MOMENTS and len(words) > _OF_MOMENTS[word]:
@@ -122,7 +126,16 @@ class Lines:
         if word in ("policy", "default") and len(words) == 3:
             words[2] = policy_word(words[2])
         answer = self._line(words)
+        if word == "why" and answer.startswith("no 13 "):
+            return self._why_removed("#".join(words[1:]), answer)
         return f"{answer}- {reason(words)}\n" if answer.startswith("bad ") and reason(words) else answer
+
+    def _why_removed(self, target: str, answer: str) -> str:
+        """Returns the answer with when a version was removed, if the journal says so."""
+        path, _, number = target.partition("#")
+        node = self.tree.find(as_bytes(path))
+        found = self.store.removals.of(node.number).get(int(number)) if number.isdigit() and isinstance(node, File) else None
+        return answer if found is None else f"{answer}- removed {local(found.moment)}, due since {local(found.since)}\n"
 
     def _mark(self, group: str, moments: list[int]) -> str:
         """Makes a mark, and says what it holds."""

@@ -14,7 +14,7 @@ from typing import Optional
 from .. import ElephantError, JournalLocked, Limits
 from ..keeping import about
 from .client import ask, typed_line
-from .wording import line_of, words_of
+from .wording import JSON, line_of, words_of
 
 _DESCRIPTION = "Mounts a folder that keeps each save of each file as a version, and sends lines to a mounted one."
 _EPILOG = "elephant-mount move OLD NEW makes a new journal with what OLD has now, and --past OLD then shows OLD's past beside it."
@@ -87,8 +87,9 @@ def send(folder: str, words: list[str]) -> int:
     except OSError as fault:
         print(f"elephant-mount: {folder} is no mounted folder of elephant-mount: {fault.strerror or fault}", file=sys.stderr)
         return 2
-    print(answer, end="")
-    return 0 if answer.startswith("ok") else 1
+    is_done = answer.startswith("ok")
+    print(answer.partition("\n")[2] if is_done and JSON in words else answer, end="")
+    return 0 if is_done else 1
 
 
 def _move(words: list[str]) -> int:

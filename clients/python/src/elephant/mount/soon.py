@@ -12,7 +12,7 @@ from .log import local
 AHEAD = 7 * DAY
 # The most rows of a list: the folder waits while it is made.
 MOST_ROWS = 1000
-_SPANS = {3600: "hour", DAY: "day", 7 * DAY: "week"}
+SPANS = {3600: "hour", DAY: "day", 7 * DAY: "week"}
 
 
 class Past(NamedTuple):
@@ -66,7 +66,7 @@ class Soon:
         when = local(max(waits or 0, int(key.since)))
         size = f"{length:,}" if length >= 0 else "-"
         which = f"version {key.number} of {'deleted ' * file.is_deleted}{file.path}"
-        because = _cause(file.policy, int(key.since), ended, file.is_deleted)
+        because = cause(file.policy, int(key.since), ended, file.is_deleted)
         waiting = f", due since {local(int(key.since))}" if key.since < (waits or now) else ""
         return f"{when}  {size:>9} bytes  {which}: {because}{waiting}"
 
@@ -109,7 +109,7 @@ class Soon:
         return _text(found[:MOST_ROWS] + ([f"and {len(found) - MOST_ROWS} more"] if len(found) > MOST_ROWS else []))
 
 
-def _cause(policy: Optional[Policy], since: int, ended: int, is_deleted: bool) -> str:
+def cause(policy: Optional[Policy], since: int, ended: int, is_deleted: bool) -> str:
     """Returns why a version goes then."""
     if isinstance(policy, KeepSafe):
         if since > ended + policy.seconds:
@@ -118,7 +118,7 @@ def _cause(policy: Optional[Policy], since: int, ended: int, is_deleted: bool) -
         return f"{span(policy.seconds)} after its end{floor}"
     if isinstance(policy, Landmarks):
         width = next((width for age, width in reversed(policy.rungs) if ended + age <= since), 0)
-        return f"a newer one was saved in the same {_SPANS.get(width, span(width))}" if width else "the mark that held it ends"
+        return f"a newer one was saved in the same {SPANS.get(width, span(width))}" if width else "the mark that held it ends"
     return "its policy keeps only the newest" if policy is not None and policy.word == "one" else "its policy"
 
 

@@ -6,17 +6,19 @@ commands, since the core has no transactions.
 
 from __future__ import annotations
 
-from collections.abc import Callable, Iterator, Sequence
+from collections.abc import Callable, Iterable, Iterator, Sequence
+from contextlib import suppress
 from functools import partial
 from typing import Any, NamedTuple, Optional
 
-from .. import Closed, Counts as Made, ElephantError, Full, Limits, NoEntry
+from .. import Closed, Counts as Made, ElephantError, Full, Limits, NoEntry, Removable
 from ..keeping import Clock, Core, KeepingStore, Lines, Opposite, Path, Replay
 from .chronicle import Chronicle
 from .counts import Counts
 from .drafts import Drafts
 from .memory import KEPT, SAVING, Memory
 from .records import Records
+from .timeline import Removals
 from .witness import Witness
 
 CLOCK_IS_RIGHT = "time is right"
@@ -25,7 +27,17 @@ READ_ONLY = "the folder was mounted with --read-only"
 _OF_CONTENTS = (b"# ", b"clock ", b"write ", b"truncate ", b"open ", b"close ", b"abandon ", b"save ", b"clean", b"pass ")
 _REMOVALS = (b"unlink", b"rmdir")
 _ENDS = (*_REMOVALS, b"rename")
+_CLEANS = (b"clean", b"pass")
 Remarks = Callable[[int], Sequence[bytes]]
+
+
+def _removed_in(answer: str, due: Sequence[Removable]) -> Sequence[tuple[int, int, int]]:
+    """Returns what a `clean` or a `pass` has removed, from its answer and from what was due before."""
+    words = answer.split()
+    if words[:2] == ["ok", "removed"]:
+        since, file, number = map(int, words[2:])
+        return [(since, file, number)]
+    return due[:int(words[-1])] if words[-1].isdigit() else []
 
 
 class Departed(NamedTuple):
@@ -37,6 +49,15 @@ class Departed(NamedTuple):
     length: int
     closed: int
     ended: int
+
+
+class Ending(NamedTuple):
+    """A name that is about to end: its directory, how it is spelled, the number of its file or directory, and the file, if it is one."""
+
+    parent: int
+    name: bytes
+    number: int
+    departed: Optional[Departed]
 
 
 class _MountReplay(Witness):
@@ -53,8 +74,21 @@ class _MountReplay(Witness):
             self._store.note_end(self.core, paths[0], word == b"rename" or line == b"unlink " + self._given)
         # Before a name ends whose content is another file's next version, the file gets this policy.
         self._given = paths[0] if word == b"policy" and paths[-1] == b"one" else b""
+        if word in _CLEANS:
+            return self._clean(line)
         code = super().command(line)
         self._store.first_moment, self._store.missed_until = self.first_moment, self.gaps.last_end
+        return code
+
+    def _clean(self, line: bytes) -> int:
+        """Removes what a line removes, and notes what that is: a pass removes the first versions that are due."""
+        if line == b"clean":
+            key = self.core.clean()
+            self._store.note_removed([key] if key[1] else [], self.moment)
+            return 0
+        keys, count = self.core.keys(self.core.look(self.core.library.elephant_due, "")), line.partition(b" ")[2]
+        code = super().command(line)
+        self._store.note_removed(keys[:int(count) if count.isdigit() else 0], self.moment)
         return code
 
 
@@ -74,6 +108,7 @@ class MountStore(KeepingStore):
         self.memory = Memory()
         self.drafts = Drafts(self)
         self.departed: dict[int, Departed] = {}
+        self.removals = Removals()
         self.first_moment = 0
         """The moment of the journal's first change, or 0."""
         self.missed_until = 0
@@ -150,10 +185,37 @@ class MountStore(KeepingStore):
         is_removal = spelled.startswith((b"unlink ", b"rmdir "))
         if is_removal:
             self._require(self.quota.lacking_for_removal())
-        answer = super().line(line)
+        due = self.due() if spelled.startswith(b"pass ") else []
+        answer = self._ending_line(line, spelled.split(b" ")) if spelled.startswith(_ENDS) else super().line(line)
         if is_removal and answer.startswith("ok "):
             self.quota.note_removal()
+        elif spelled.startswith(_CLEANS):
+            self.note_removed(_removed_in(answer, due), int(self.now))
         return answer
+
+    def _ending_line(self, line: str, words: Sequence[bytes]) -> str:
+        """Runs a line that ends a name, and notes that."""
+        with self._lock:
+            if self._core is None:
+                raise Closed("the store")
+            ending = None
+            with suppress(ElephantError):  # then the line is refused or bad
+                ending = self._ending(self._core, words[1]) if len(words) > 1 and words[1].startswith(b"/") else None
+            answer = super().line(line)
+            if ending is not None and answer.startswith("ok "):
+                self._note_ending(ending, self._core.now(), words[0] == b"rename")
+            return answer
+
+    def clean(self) -> Optional[Removable]:
+        found = super().clean()
+        if found is not None:
+            self.note_removed([found], int(self.now))
+        return found
+
+    def note_removed(self, keys: Iterable[tuple[int, int, int]], moment: int) -> None:
+        """Notes that versions were removed: since when each was due, and the numbers of its file and its own."""
+        for since, file, number in keys:
+            self.removals.note(file, number, moment, since)
 
     def undelete(self, path: Path) -> Optional[int]:
         """Restores a deleted name. Returns the number of the version that a file without a name gets, else None."""
@@ -217,16 +279,28 @@ class MountStore(KeepingStore):
 
     def note_end(self, core: Core, path: bytes, is_moved: bool) -> None:
         """Notes that a name is about to end, which file it had, and whether that goes on under another name."""
+        ending = self._ending(core, path)
+        if ending is not None:
+            self._note_ending(ending, core.now(), is_moved)
+
+    @staticmethod
+    def _ending(core: Core, path: bytes) -> Optional[Ending]:
+        """Returns what a name leads to, or None: then the command that would end it is refused."""
         parent, _, name = path.rpartition(b"/")
         try:
             row = core.stat(path, path)
-            directory = row.id if row.is_directory else None
-            if directory is None:
-                last = row.version, row.length, row.closed, core.now()
-                self.departed[row.id] = Departed(path, core.policy_of(row).word, *last)
-            self.chronicle.end(core.stat(parent, parent or b"/").id, name, directory, core.now(), is_moved)
+            file, last = int(row.id), (int(row.version), int(row.length), int(row.closed))
+            departed = None if row.is_directory else Departed(path, core.policy_of(row).word, *last, 0)
+            return Ending(int(core.stat(parent, parent or b"/").id), name, file, departed)
         except NoEntry:
-            pass  # the command itself is refused
+            return None
+
+    def _note_ending(self, it: Ending, now: int, is_moved: bool) -> None:
+        """Notes that a name ends now."""
+        self.chronicle.end(it.parent, it.name, it.number if it.departed is None else None, now, is_moved)
+        if it.departed is not None:
+            self.departed[it.number] = it.departed._replace(ended=now)
+            self.chronicle.end_of_file(it.number, it.parent, it.name, now)
 
     def note_moved(self, core: Core, path: bytes) -> None:
         """Notes that what had a name, which has ended, goes on under another one."""

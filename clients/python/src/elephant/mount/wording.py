@@ -7,6 +7,8 @@ import shlex
 
 # A word in quotes, or a space that a backslash keeps. No spelled path and no number begins with a quote.
 _QUOTED = re.compile(r"""(^| )['"]|\\ """)
+# The option of lines whose answer programs read.
+JSON = "--json"
 _UNSPELLED = re.compile(rb"[^!-~]")
 
 

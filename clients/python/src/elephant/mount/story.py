@@ -1,0 +1,185 @@
+"""The story of one file: a row for each version, with what became of it. It answers `history FILE`."""
+
+from __future__ import annotations
+
+import json
+from collections.abc import Iterator, Mapping, Sequence
+from typing import Any, NamedTuple, Optional, Union
+
+from .. import LAST_MOMENT, Cause, Current, Due, Fate, Kept, KeepSafe, Landmarks, Marked, Policy, Version
+from ..keeping import span
+from .log import local
+from .past import text_of
+from .soon import SPANS, cause
+from .store import MountStore
+from .timeline import NotedRemoval
+from .tree import Directory, File, Tree
+from .whereabouts import Nothing, Whereabouts, told
+from .wording import JSON, as_bytes
+
+_HEAD = "version  saved                ended                    bytes"
+
+
+class Chapter(NamedTuple):
+    """A version: its row if it is held, and what became of it."""
+
+    number: int
+    row: Optional[Version]
+    fate: Union[Fate, NotedRemoval, None]
+
+
+class Stories:
+    """Answers `history FILE`."""
+
+    def __init__(self, store: MountStore, tree: Tree) -> None:
+        self._store, self._tree, self._where = store, tree, Whereabouts(store, tree)
+
+    def answer(self, words: Sequence[str]) -> str:
+        """Returns the answer to the words after `history`."""
+        paths = [it for it in words if not it.startswith("--")]
+        if len(paths) != 1 or not paths[0].startswith("/") or set(words) - {*paths, JSON}:
+            raise ValueError(f"history takes a file, and {JSON}")
+        file = self._file_of(as_bytes(paths[0]))
+        found = self._where.stat_of(file)
+        policy = None if found is None else found.policy
+        chapters = list(self._chapters(file, policy))
+        names = list(self._names(file))
+        if JSON in words:
+            rows = [_as_data(it, policy, file in self._tree.files) for it in chapters]
+            data = {"file": file, "policy": policy and policy.word, "names": names, "versions": rows}
+            return f"ok\n{json.dumps(data, indent=1)}\n"
+        return self._table(as_bytes(paths[0]), file, policy, chapters, names)
+
+    def _table(
+        self, path: bytes, file: int, policy: Optional[Policy], chapters: Sequence[Chapter], names: Sequence[Mapping[str, Optional[str]]]
+    ) -> str:
+        node = self._tree.files.get(file)
+        held = sum(it.row is not None for it in chapters)
+        what = f"{'deleted ' * (node is None)}{told(path)}: {len(chapters)} versions, {held} of them held"
+        lines = [f"ok {what}{'' if policy is None else f'; policy {policy}'}", _HEAD]
+        lines += [_row(it, policy, node is None) for it in chapters]
+        if node is not None and node.draft is not None:
+            lines.append("a program is writing the next version")
+        if len(names) > 1:
+            lines += [f"name {it['name']} {'now' if it['until'] is None else 'until ' + it['until']}" for it in names]
+        return "".join(f"{it.rstrip()}\n" for it in lines)
+
+    def _file_of(self, path: bytes) -> int:
+        """Returns the number of the file that has a path, or had it last. Raises Nothing."""
+        node = self._tree.find(path)
+        if isinstance(node, File):
+            return node.number
+        if isinstance(node, Directory):
+            raise Nothing(f"{told(path)} is a folder: history is of one file")
+        named = self._tree.files
+        lost = [(last.ended, number) for number, last in self._store.departed.items() if last.path == path and number not in named]
+        if not lost:
+            raise Nothing(f"there is no file {told(path)}, and none was deleted")
+        return max(lost)[1]
+
+    def _chapters(self, file: int, policy: Optional[Policy]) -> Iterator[Chapter]:
+        """Yields the versions of a file, from the first one."""
+        held = {it.number: it for it in self._where.versions_of(file)}
+        noted, last = self._store.removals.of(file), self._store.departed.get(file)
+        node = self._tree.files.get(file)
+        newest = node.version if node is not None else max([*held, *noted, last.version if last else 0])
+        ends = {} if node is not None else {it.number: it.since for it in self._store.ahead(LAST_MOMENT) if it.file == file}
+        for number in range(1, newest + 1):
+            row = held.get(number)
+            if row is None:
+                yield Chapter(number, None, noted.get(number))
+            elif node is not None:
+                yield Chapter(number, row, self._store.why(node.path, version=number))
+            else:
+                end = ends.get(number)
+                yield Chapter(number, row, Due(end) if end is not None and end <= self._store.now else Kept(end, None))
+
+    def _names(self, file: int) -> Iterator[dict[str, Optional[str]]]:
+        """Yields the names that a file had, each with its end, and then those that it has."""
+        for it in self._store.chronicle.names_of(file):
+            above = self._where.path_at(it.parent, max(it.until - 1, 0))
+            # A folder that was made and deleted within a second had no path.
+            yield {"name": told((b"/-" if above is None else above) + b"/" + it.name), "until": local(it.until)}
+        node = self._tree.files.get(file)
+        for folder, name in (node.names if node is not None else ()):
+            yield {"name": told(folder.path_of(name)), "until": None}
+
+
+def _row(it: Chapter, policy: Optional[Policy], is_deleted: bool) -> str:
+    """Returns a row of the table."""
+    if it.row is None:
+        return f"{it.number:>7}  {'-':<19}  {'-':<19}  {'-':>9}  {_of_removed(it.fate)}"
+    ended = "-" if it.row.ended is None else local(int(it.row.ended))
+    told_fate = _of_held(it.fate, it.row, policy, is_deleted)
+    return f"{it.number:>7}  {local(int(it.row.closed))}  {ended:<19}  {it.row.length:>9,}  {told_fate}"
+
+
+def _of_removed(fate: Union[Fate, NotedRemoval, None]) -> str:
+    if not isinstance(fate, NotedRemoval):
+        return "removed"
+    return f"removed {local(fate.moment)}, due since {local(fate.since)}"
+
+
+def _of_held(fate: Union[Fate, NotedRemoval, None], row: Version, policy: Optional[Policy], is_deleted: bool) -> str:
+    """Returns what keeps a version, and until when."""
+    ended = int(row.ended or 0)
+    if isinstance(fate, Current):
+        return "current"
+    if isinstance(fate, Due):
+        because = cause(policy, int(fate.since), ended, True) if is_deleted else _because(fate)
+        return f"due since {local(int(fate.since))}: {because}"
+    if isinstance(fate, Marked):
+        end = "for good" if fate.until is None else f"until {local(int(fate.until))}"
+        return f"kept {end} by the mark {fate.group} of {local(int(fate.at))}"
+    if not isinstance(fate, Kept):
+        return "kept while a program reads it"
+    if fate.until is None:
+        return f"kept for good: {_for_good(policy)}"
+    return f"kept until {local(int(fate.until))}: {cause(policy, int(fate.until), ended, is_deleted)}"
+
+
+def _for_good(policy: Optional[Policy]) -> str:
+    """Returns why a policy never lets a version go."""
+    if isinstance(policy, KeepSafe):
+        return f"one of the newest {policy.floor}"
+    if isinstance(policy, Landmarks):
+        width = policy.rungs[-1][1]
+        return f"the newest of its {SPANS.get(width, span(width))}"
+    return "its policy keeps all"
+
+
+def _because(it: Due) -> str:
+    """Returns the cause of a version that is due."""
+    if it.cause is Cause.BY_AGE:
+        return f"{span(it.age or 0)} after its end"
+    if it.cause is Cause.DISPLACED:
+        return f"version {it.by} was saved in the same span"
+    return "its policy keeps only the newest"
+
+
+# For programs.
+
+
+def _as_data(it: Chapter, policy: Optional[Policy], has_name: bool) -> dict[str, Any]:
+    """Returns a version as JSON has it: moments in UTC, and None for what isn't known or doesn't end."""
+    row, fate = it.row, it.fate
+    data: dict[str, Any] = {"number": it.number, "held": row is not None, "opened": None, "closed": None, "ended": None, "length": None}
+    if row is not None:
+        data.update(opened=_utc(row.opened), closed=_utc(row.closed), ended=_utc(row.ended), length=row.length)
+    if isinstance(fate, NotedRemoval):
+        data["fate"] = {"is": "removed", "moment": _utc(fate.moment), "since": _utc(fate.since), "cause": None}
+    elif row is None:
+        data["fate"] = {"is": "removed", "moment": None, "since": None, "cause": None}
+    elif isinstance(fate, Due):
+        data["fate"] = {"is": "due", "since": _utc(fate.since), "cause": _because(fate) if has_name else None}
+    elif isinstance(fate, Marked):
+        data["fate"] = {"is": "marked", "group": fate.group, "at": _utc(fate.at), "until": _utc(fate.until)}
+    elif isinstance(fate, Kept):
+        data["fate"] = {"is": "kept", "until": _utc(fate.until), "policy": policy and policy.word}
+    else:
+        data["fate"] = {"is": str(fate)}
+    return data
+
+
+def _utc(moment: Optional[int]) -> Optional[str]:
+    return None if moment is None else text_of(int(moment))
