@@ -1,9 +1,11 @@
-"""Lines that people type to a mounted folder: one file's story, marks, policies, undo and redo; and why a line is bad."""
+"""Lines that people type to a mounted folder: one file's story, marks, policies, undo and redo; the moments that a folder lists;
+and why a line is bad."""
 
 from __future__ import annotations
 
 import argparse
 import json
+import os
 import random
 import re
 import subprocess
@@ -11,7 +13,7 @@ import sys
 from pathlib import Path
 
 from mount.mounts import SOURCE, Counts, Mounted
-from mount.past import Faults
+from mount.past import Faults, refusal
 from mount.programs import next_second
 from mount.rules import run_tests
 
@@ -41,7 +43,8 @@ def lines(room: str, asked: argparse.Namespace) -> Counts:
     """What people ask of the past of files, and undo and redo."""
     seen = Faults("lines")
     with Mounted(room, "--clean-every", "0") as mounted:
-        top = mounted.folder
+        top, hidden = mounted.folder, mounted.folder / ".elephant"
+        before = next_second()
         (top / "d").mkdir()
         (top / "d" / "my plan").write_text("one")
         first = next_second()
@@ -49,6 +52,13 @@ def lines(room: str, asked: argparse.Namespace) -> Counts:
         next_second()
         _tell(seen, mounted, first)
         _undo(seen, mounted, top / "d" / "my plan")
+        listed = os.listdir(hidden / "at")
+        seen.expect("the moments", (len(listed) >= 3, sorted(listed) == listed), (True, True))
+        seen.expect("the first of them", sorted(os.listdir(hidden / "at" / listed[0])), ["d"])
+        seen.expect("before it", refusal(lambda: os.listdir(hidden / "at" / str(before - 1))), "ENOENT")
+        seen.expect("its log", "this folder begins at" in mounted.log(), True)
+        answer = mounted.ask("undo", "d/my plan", f"@{before - 1}")
+        seen.expect("an undo to it", (answer[:3], "this folder begins at" in answer), ("no:", True))
     return seen.counts()
 
 

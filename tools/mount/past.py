@@ -55,7 +55,7 @@ def past(room: str, asked: argparse.Namespace) -> Counts:
         third = next_second()
         then = {it: hidden / "at" / str(it) for it in (before, first, second, third)}
         iso = time.strftime("%Y-%m-%dT%H:%M:%SZ", time.gmtime(first))
-        seen.expect("before the first save", sorted(os.listdir(then[before])), [])
+        seen.expect("before the folder begins", refusal(lambda: os.listdir(then[before])), "ENOENT")
         seen.expect("after it", (then[first] / "d" / "f").read_text(), "one")
         seen.expect("by a date", (hidden / "at" / iso / "d" / "f").read_text(), "one")
         seen.expect("after a rename", {it.name: it.read_text() for it in (then[second] / "d").iterdir()}, {"g": "two"})

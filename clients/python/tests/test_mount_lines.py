@@ -1,9 +1,10 @@
-"""The lines of a mount that people type: marks, policies, undo and redo, and the story of a file. Without a kernel, by a clock that a test
-moves. It needs pyfuse3."""
+"""The lines of a mount that people type: marks, policies, undo and redo, the story of a file, and the moments. Without a
+kernel, by a clock that a test moves. It needs pyfuse3."""
 
 from __future__ import annotations
 
 import contextlib
+import errno
 import io
 import json
 import tempfile
@@ -20,9 +21,12 @@ except ImportError:
 
 from clocks import DAY, START, FalseClocks
 from elephant.mount import client, main
+from elephant.mount.ages import Ages
 from elephant.mount.control import Lines
 from elephant.mount.operations import Operations
+from elephant.mount.past import NotBegun, PastNode
 from elephant.mount.shorter import shorten
+from elephant.mount.store import MountStore
 from test_mount import FOLDER, MEMORY, Mounted
 from test_mount_typed import Berlin
 from test_removal import Said
@@ -244,6 +248,12 @@ class Undoing(Case):
             self.assertRegex(self.ask(line), "^elephant-mount: a program has the file open")
         self.it.contents.closed(node, True)
 
+    def test_a_moment_before_the_folder_begins(self) -> None:
+        self.save(b"f", b"one")
+        begins = r"this folder begins at 2026-11-29 10:00:00 \+01:00"
+        self.assertRegex(self.ask("undo /f 2026-11-29 09:59"), f"^no: there was nothing at 2026-11-29 09:59:00 .*: {begins}\n$")
+        self.assertRegex(self.ask("undo /f 1"), f"{begins}; version 1 of a file is '#1'\n$")
+
 
 class Telling(Case):
     def rows(self, path: str) -> list[dict[str, Any]]:
@@ -352,6 +362,72 @@ class Telling(Case):
         self.assertEqual(self.it.store.removals.of(1), wanted)
         self.assertEqual(self.ask("why /f 3"), f"no 13 Forgotten -\n- removed {told(now)}, due since {told(START + 20 + HOUR)}\n")
         self.assertEqual(self.ask(f"why /f@{START + 15}"), "no 13 Forgotten -\n")
+
+
+class Listing(Case):
+    def at(self) -> PastNode:
+        return self.it.past.find(self.it.past.root, b"at")
+
+    def names(self) -> list[bytes]:
+        return self.it.past.names(self.at())
+
+    def test_the_moments_at_which_something_changed(self) -> None:
+        """A reader, a policy, a mark and a removal change no name and no content."""
+        self.save(b"f", b"one", b"two")
+        self.it.naming.mkdir(self.it.top, b"d", FOLDER, 0, 0)
+        self.clocks.pass_by(10)
+        self.it.store.drafts.close(self.it.store.drafts.open_reader(b"/f", 2, 2))
+        self.ask("policy /f one")
+        self.clocks.pass_by(10)
+        self.it.store.clean()
+        self.clocks.pass_by(10)
+        self.it.naming.rename(self.it.top, b"f", self.it.top, b"g", 0)
+        self.clocks.pass_by(10)
+        self.it.naming.unlink(self.it.top, b"g")
+        self.clocks.pass_by(10)
+        wanted = [b"2026-11-29T10:00:%02d+01:00" % it for it in (0, 10, 20, 50)] + [b"2026-11-29T10:01:00+01:00"]
+        self.assertEqual(self.names(), wanted)
+        for name, held in zip(wanted, ([b"f"], [b"f"], [b"d", b"f"], [b"d", b"g"], [b"d"])):
+            self.assertEqual(sorted(self.it.past.names(self.it.past.lookup(self.at(), name))), held)
+        self.again()
+        self.assertEqual(self.names(), wanted)
+
+    def test_a_draft_that_was_synced_is_no_change_before_it_is_a_version(self) -> None:
+        node = self.it.make(b"f")
+        self.clocks.pass_by(10)
+        self.it.open(node)
+        self.it.contents.write(node, 0, b"one")
+        self.it.contents.save(node)
+        self.clocks.pass_by(10)
+        self.assertEqual(self.names(), [b"2026-11-29T10:00:00+01:00"])
+        self.it.contents.closed(node, True)
+        wanted = [b"2026-11-29T10:00:00+01:00", b"2026-11-29T10:00:20+01:00"]
+        self.assertEqual(self.names(), wanted)
+        self.mount()
+        self.assertEqual(self.names(), wanted)
+
+    def test_a_moment_before_the_folder_begins_is_refused_and_told(self) -> None:
+        self.assertEqual(self.it.past.names(self.it.past.lookup(self.at(), b"1999-01-01")), [])  # nothing begins yet
+        self.save(b"f", b"one")
+        with self.assertRaises(NotBegun) as caught:
+            self.it.past.lookup(self.at(), b"2026-11-29 09:59:59")
+        self.assertEqual(self.operations.errno_of(caught.exception), errno.ENOENT)
+        self.assertTrue(self.log.has("there was nothing at 2026-11-29 09:59:59 +01:00: this folder begins at 2026-11-29 10:00:00 +01:00"))
+        self.assertEqual(self.it.past.names(self.it.past.lookup(self.at(), b"2026-11-29 10:00")), [b"f"])
+
+    def test_an_older_journal_has_its_moments_too(self) -> None:
+        self.save(b"f", b"one")
+        self.it.close()
+        old, self.journal = self.journal, self.journal.with_name("newer")
+        self.clocks.pass_by(DAY)
+        self._mounted = None
+        self.mount()
+        self.save(b"g", b"one")
+        older = MountStore(str(old), read_only=True)
+        self.addCleanup(older.close)
+        self.it.past = Ages(self.it.store, self.it.tree, b"", [older])
+        self.assertEqual(self.names(), [b"2026-11-29T10:00:00+01:00", b"2026-11-30T10:00:10+01:00"])
+        self.assertEqual(self.it.past.begin, START)
 
 
 class Typing(unittest.TestCase):

@@ -1,4 +1,4 @@
-"""Words as people type them in a line of the mount, why a line is bad, and which versions were removed: without a kernel and a store."""
+"""Words as people type them in a line of the mount, why a line is bad, and which moments a folder lists: without a kernel and a store."""
 
 from __future__ import annotations
 
@@ -11,7 +11,7 @@ from typing import Optional
 
 from elephant import BadTime
 from elephant.mount.reasons import TAKES, reason
-from elephant.mount.timeline import Removals
+from elephant.mount.timeline import Moments, Removals
 from elephant.mount.typed import moment_in, moments_in, policy_word, version_in
 
 SCRIPT = Path(__file__).resolve().parents[3] / "docs" / "SCRIPT.md"
@@ -136,7 +136,34 @@ class Reasons(unittest.TestCase):
             self.assertEqual(reason(line.split(" ")), wanted, line)
 
 
-class Timeline(unittest.TestCase):
+class Timeline(Berlin):
+    def test_the_last_thousand_moments_and_before_them_one_of_each_day(self) -> None:
+        moments, noon = Moments(), TEN + 2 * HOUR
+        old = [noon - 3 * DAY, noon - 3 * DAY + 60, noon - 3 * DAY + 120, noon - 2 * DAY, noon - 2 * DAY + 60]
+        new = [noon + it for it in range(1000)]
+        for it in old + new:
+            moments.note(it)
+        self.assertEqual(list(moments.listed()), [old[2], old[4], *new])
+        moments.note(new[-1])  # another change of the second
+        moments.note(new[-1] + 1)
+        # The first of today is left out now: today has later ones.
+        self.assertEqual(list(moments.listed()), [old[2], old[4], *new[1:], new[-1] + 1])
+
+    def test_few_moments_are_all_listed(self) -> None:
+        moments = Moments()
+        self.assertEqual(list(moments.listed()), [])
+        for it in (5, 5, 6, 6 + DAY):
+            moments.note(it)
+        self.assertEqual(list(moments.listed()), [5, 6, 6 + DAY])
+
+    def test_a_day_ends_at_midnight_of_the_zone(self) -> None:
+        moments = Moments()
+        midnight = TEN - 10 * HOUR
+        first = [midnight - 2, midnight - 1, midnight]
+        for it in [*first, *(midnight + DAY + it for it in range(1000))]:
+            moments.note(it)
+        self.assertEqual(list(moments.listed())[:3], [midnight - 1, midnight, midnight + DAY])
+
     def test_removals_of_a_file(self) -> None:
         removals = Removals()
         removals.note(7, 2, 500, 400)

@@ -254,9 +254,11 @@ class Moments(Undoing):
 
     def test_moments_without_the_name(self) -> None:
         it = self.mount()
+        it.save(b"g", b"one")
         self.later()
         it.save(b"f", b"one")
         self.assertIn("there was no f at ", self.refusal(b"/f", BEGIN))
+        self.assertIn("this folder begins at ", self.refusal(b"/f", BEGIN - 1))
         self.assertIn("is to come", self.refusal(b"/f", self.clock + 1))
 
     def test_a_file_that_had_another_name(self) -> None:
@@ -528,7 +530,7 @@ class Folders(Undoing):
         self.assertEqual(self.files(), {**self.CONTENTS, b"/d/a": b"oops"})
 
     def test_a_folder_that_was_never_there(self) -> None:
-        self.assertIn("there was no d at ", self.refusal(b"/d", BEGIN - 1))
+        self.assertIn("there was no none at ", self.refusal(b"/none", self.first))
 
     def test_the_top(self) -> None:
         self.fill({b"/d/a": b"oops"})

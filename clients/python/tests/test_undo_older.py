@@ -144,7 +144,7 @@ class Files(Older):
 
 class Refusals(Older):
     def test_a_moment_before_the_first_journal(self) -> None:
-        self.assertIn("there was no f at ", self.refusal(b"/f", self.first - 10))
+        self.assertIn("this folder begins at ", self.refusal(b"/f", self.first - 10))
 
     def test_a_name_that_was_not_there_then(self) -> None:
         self.it.save(b"fresh", b"fresh")

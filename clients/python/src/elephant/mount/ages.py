@@ -12,6 +12,8 @@ import errno
 import os
 import stat
 from bisect import bisect_right
+from collections.abc import Iterator
+from itertools import chain
 from typing import Optional
 
 from .. import LAST_MOMENT
@@ -64,6 +66,13 @@ class Ages(Past):
         """Returns the store that has a moment, and the moment to ask it for."""
         store = self.past_at(moment).store
         return store, moment if store is self.store else min(moment, int(store.now))
+
+    def moments(self) -> Iterator[int]:
+        return chain(*(it.moments() for it in self._pasts), super().moments())
+
+    @property
+    def begin(self) -> int:
+        return self._pasts[0].begin if self._pasts else super().begin
 
     # What is asked of each.
 

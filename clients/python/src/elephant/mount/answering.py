@@ -17,6 +17,7 @@ from .contents import Limited, TooBig
 from .log import Log
 from .names import TooLong, shown
 from .naming import TooMuch
+from .past import NotBegun
 from .store import MountStore
 
 _ERRNOS = {
@@ -58,6 +59,8 @@ class Answering(pyfuse3.Operations):
             self.log.say_once(f"refused: {where}{fault.strerror}")
         if isinstance(fault, ElephantError):
             return _ERRNOS.get(fault.number, errno.EIO)
+        if isinstance(fault, NotBegun):
+            self.log.say_once(fault.strerror)
         assert isinstance(fault, OSError)
         return fault.errno or errno.EIO
 

@@ -213,6 +213,7 @@ class Drafts:
         lines.append(b"close %d" % handle)
         self._forget(handle)
         opposites[:] = [it for it in opposites if it.handle != handle]
+        self._store.has_saved = self._store.has_saved or version > 0
         if version and path is not None:
             opposites.append(Opposite(partial(self._go_back, path, old)))
         return version

@@ -1,6 +1,6 @@
 """The folder `.elephant`: the tree at a moment, the held versions of each file, and the restorable names.
 
-    .elephant/at/2026-11-27T08:00:00Z/PATH    what PATH held at that moment
+    .elephant/at/2026-11-27T08:00:00Z/PATH    what PATH held at that moment; the folder lists the moments of changes
     .elephant/versions/PATH/2                 version 2 of the file PATH
     .elephant/restorable/PATH                 what a deleted file held last
     .elephant/restorable-until                until when each deleted file can be brought back, as text
@@ -15,13 +15,13 @@ from __future__ import annotations
 
 import errno
 import stat
-from collections.abc import Callable
 import time
+from collections.abc import Callable, Iterator
 from datetime import datetime, timezone
 from typing import Any, NamedTuple, Optional
 
 from .. import BadTime, ElephantError, Forgotten, NoEntry, read_time
-from ..keeping import AT, NOW, VERSION
+from ..keeping import AT, NOW, VERSION, told_time
 from .names import TooLong, name_in, names_of, spelled
 from .records import DIRECTORY_MODE, FILE_MODE, Attributes, directory_key, file_key
 from .store import MountStore
@@ -33,6 +33,10 @@ _WORDS: dict[bytes, tuple[object, ...]] = {b"versions": (b"",), b"restorable": (
 # The kinds of files: by a moment, by the number of a version, and deleted ones.
 FILES = ("then", "version", "deleted")
 Key = tuple[object, ...]
+
+
+class NotBegun(FileNotFoundError):
+    """A moment is before the first change of the folder."""
 
 
 class PastNode:
@@ -86,6 +90,11 @@ def moment_of(name: bytes, now: Optional[int] = None) -> int:
 def is_lasting(name: bytes) -> bool:
     """Whether a name of the folder `at` means one moment, whenever it is asked for."""
     return name.lstrip(b"@").isdigit() or name[:5].endswith(b"-")
+
+
+def name_of_moment(moment: int) -> bytes:
+    """Returns the name by which the folder `at` lists a moment: its local time, with the zone."""
+    return datetime.fromtimestamp(moment, timezone.utc).astimezone().isoformat().encode()
 
 
 def text_of(moment: int) -> str:
@@ -154,6 +163,8 @@ class Past:
             moment = moment_of(name, int(self.store.now))
             if moment > self.store.now:
                 raise FileNotFoundError(errno.ENOENT, "the moment is to come")
+            if moment < self.begin:
+                raise NotBegun(errno.ENOENT, f"there was nothing at {told_time(moment)}: this folder begins at {told_time(self.begin)}")
             return self.node("at", moment, b"")
         at, path = words
         folder = _path(path)
@@ -294,13 +305,22 @@ class Past:
         kind, *words = node.key
         if kind == "root":
             return list(PARTS)
-        if kind == "at" and words:
-            return list(self._names_at(words[0], _path(words[1])))
+        if kind == "at":
+            return list(self._names_at(words[0], _path(words[1]))) if words else list(map(name_of_moment, self.moments()))
         if kind == "versions":
             return sorted(self._directory(words[0]).children)
         if kind == "file":
             return [b"%d" % it.number for it in self.store.versions(_path(words[0]))]
         return sorted(self._deleted_names(words[0])) if kind == "restorable" else []
+
+    def moments(self) -> Iterator[int]:
+        """Yields the moments at which something changed: the last thousand, and before them the last one of each day."""
+        return self.store.moments.listed()
+
+    @property
+    def begin(self) -> int:
+        """The moment of the first change, or 0."""
+        return self.store.first_moment
 
     # Deleted names.
 

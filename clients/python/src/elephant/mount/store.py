@@ -18,7 +18,7 @@ from .counts import Counts
 from .drafts import Drafts
 from .memory import KEPT, SAVING, Memory
 from .records import Records
-from .timeline import Removals
+from .timeline import OF_TREE, Moments, Removals
 from .witness import Witness
 
 CLOCK_IS_RIGHT = "time is right"
@@ -78,6 +78,15 @@ class _MountReplay(Witness):
             return self._clean(line)
         code = super().command(line)
         self._store.first_moment, self._store.missed_until = self.first_moment, self.gaps.last_end
+        if line.startswith(OF_TREE):
+            self._store.moments.note(self.moment)
+        return code
+
+    def close(self, handle: int) -> int:
+        is_written = handle in self.writers
+        code = super().close(handle)
+        if is_written and not code and self.core.number:
+            self._store.moments.note(self.moment)
         return code
 
     def _clean(self, line: bytes) -> int:
@@ -108,7 +117,9 @@ class MountStore(KeepingStore):
         self.memory = Memory()
         self.drafts = Drafts(self)
         self.departed: dict[int, Departed] = {}
-        self.removals = Removals()
+        self.moments, self.removals = Moments(), Removals()
+        self.has_saved = False
+        """Whether the change that is being made has closed a draft that became a version."""
         self.first_moment = 0
         """The moment of the journal's first change, or 0."""
         self.missed_until = 0
@@ -125,6 +136,9 @@ class MountStore(KeepingStore):
     def note_change(self, now: int, lines: Sequence[bytes]) -> None:
         self.first_moment = self.first_moment or now
         self.name_changes += any(not line.startswith(_OF_CONTENTS) for line in lines)
+        if self.has_saved or any(line.startswith(OF_TREE) for line in lines):
+            self.moments.note(now)
+        self.has_saved = False
 
     def note_written(self, lines: Sequence[bytes]) -> None:
         for line in lines:

@@ -26,6 +26,8 @@ PAUSE = 10
 # And so were contents changed.
 CHANGE_PAUSE = 2
 MOST_TOLD = 20
+# A smaller number in place of a moment was meant as that of a version.
+MOST_VERSIONS = 1_000_000
 
 
 StoreAt = Callable[[int], tuple[MountStore, int]]
@@ -321,6 +323,7 @@ class Undo:
             raise Nothing(f"{told_time(moment)} is to come")
         if isinstance(node, File):
             self.require_no_writer(node)
+        self._require_begun(moment)
         then = Then(*self._store_at(moment), self.store)
         try:
             plan = Plan(self._where, path, moment, then)
@@ -331,6 +334,13 @@ class Undo:
         if not plan.is_folder:
             return self._undo_file_to(plan, is_dry)
         return self._dry(plan) if is_dry else self._do(plan)
+
+    def _require_begun(self, moment: int) -> None:
+        """Raises Nothing if a moment is before the first change of the folder."""
+        begin = self._store_at(moment)[0].first_moment
+        if moment < begin:
+            hint = f"; version {moment} of a file is '#{moment}'" if moment < MOST_VERSIONS else ""
+            raise Nothing(f"there was nothing at {told_time(moment)}: this folder begins at {told_time(begin)}{hint}")
 
     def _undo_to_own(self, path: bytes, node: File, moment: int, is_dry: bool) -> str:
         """Brings back what a file held at a moment at which it had another name."""
