@@ -1,5 +1,5 @@
 """Lines that people type to a mounted folder: one file's story, marks, policies, undo and redo; the moments that a folder lists;
-and why a line is bad."""
+an audit; and why a line is bad."""
 
 from __future__ import annotations
 
@@ -59,6 +59,7 @@ def lines(room: str, asked: argparse.Namespace) -> Counts:
         seen.expect("its log", "this folder begins at" in mounted.log(), True)
         answer = mounted.ask("undo", "d/my plan", f"@{before - 1}")
         seen.expect("an undo to it", (answer[:3], "this folder begins at" in answer), ("no:", True))
+        seen.expect("no history", "mount the folder with --history" in mounted.ask("gone"), True)
     return seen.counts()
 
 
@@ -101,6 +102,34 @@ def _undo(seen: Faults, mounted: Mounted, place: Path) -> None:
     seen.expect("an undo after another mount", (mounted.ask("undo", "d/my plan")[:12], place.read_text()), ("ok version 1", "three"))
 
 
+def audits(room: str, asked: argparse.Namespace) -> Counts:
+    """A mount with `--history` answers an audit, also about what was before that option."""
+    seen = Faults("audits")
+    with Mounted(room, "--clean-every", "0") as mounted:
+        mounted.ask("default", "/", "one")
+        for text in ("one", "two", "three"):
+            (mounted.folder / "f").write_text(text)
+        seen.expect("removals", mounted.ask("clean all"), "ok removed 3\n")
+        seen.expect("why one is gone", mounted.ask("why", "f", "2").splitlines()[0], "no 13 Forgotten -")
+        seen.expect("when", dated(mounted.ask("why", "f", "2").splitlines()[-1]), "- removed DATE, due since DATE")
+    with Mounted(room, "--clean-every", "0", "--history") as mounted:
+        gone = mounted.ask("gone").splitlines()
+        seen.expect("gone", [it.split()[2:5] for it in gone[1:]], [["1", str(it), "/f"] for it in (1, 2, 3)])
+        seen.expect("why", mounted.ask("why", "f", "2").split()[:3], ["ok", "why", "removed"])
+        seen.expect("the story", "its policy keeps only the newest" in mounted.ask("history", "f").splitlines()[3], True)
+        with open(mounted.folder / "f", "a", encoding="ascii") as file:
+            file.write("four")
+            file.flush()
+            os.fsync(file.fileno())
+            seen.expect("handles", [it.split()[3:] for it in mounted.ask("handles").splitlines()[1:]][0][0::2], ["draft", "/f"])
+        history = mounted.ask("history").splitlines()
+        seen.expect("history", [it for it in ("- create /f", "- clean") if it not in history], [])
+        seen.expect("answers", "- clean" in mounted.ask("answers").splitlines(), True)
+        seen.expect("a rewrite", mounted.ask("rewrite").startswith("ok journal "), True)
+        seen.expect("gone afterwards", mounted.ask("gone").splitlines(), gone)
+    return seen.counts()
+
+
 def reasons(room: str, asked: argparse.Namespace) -> Counts:
     """The mount says why a line is bad as the program does with `--explain`."""
     sys.path.insert(0, str(SOURCE))
@@ -127,4 +156,4 @@ def typed(room: str, asked: argparse.Namespace) -> Counts:
     return run_tests("typed", ["test_mount_lines", "test_mount_typed"])
 
 
-CHECKS = [lines, reasons, typed]
+CHECKS = [lines, audits, reasons, typed]

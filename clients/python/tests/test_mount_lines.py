@@ -1,4 +1,4 @@
-"""The lines of a mount that people type: marks, policies, undo and redo, the story of a file, and the moments. Without a
+"""The lines of a mount that people type: marks, policies, undo and redo, the story of a file, the moments, and an audit. Without a
 kernel, by a clock that a test moves. It needs pyfuse3."""
 
 from __future__ import annotations
@@ -20,8 +20,10 @@ except ImportError:
     raise unittest.SkipTest("there is no pyfuse3 for this Python") from None
 
 from clocks import DAY, START, FalseClocks
+from elephant import Limits
 from elephant.mount import client, main
 from elephant.mount.ages import Ages
+from elephant.mount.audit import NO_HISTORY, Audit
 from elephant.mount.control import Lines
 from elephant.mount.operations import Operations
 from elephant.mount.past import NotBegun, PastNode
@@ -42,6 +44,8 @@ def told(moment: int) -> str:
 
 
 class Case(Berlin):
+    has_history = False
+
     def setUp(self) -> None:
         super().setUp()
         room = tempfile.TemporaryDirectory(dir=MEMORY)
@@ -62,7 +66,8 @@ class Case(Berlin):
         self._mounted = it = Mounted(journal or self.journal, clock=self.clocks)
         self.addCleanup(it.store.close)
         self.operations = Operations(it.store, it.tree, it.contents, it.naming, it.past, self.log)
-        self.lines = Lines(self.operations)
+        self.lines = Lines(self.operations, Audit(it.store, Limits(), self.has_history))
+        self.addCleanup(self.lines.audit.close)
 
     def ask(self, line: str) -> str:
         return self.lines.answer(line)[0]
@@ -428,6 +433,58 @@ class Listing(Case):
         self.it.past = Ages(self.it.store, self.it.tree, b"", [older])
         self.assertEqual(self.names(), [b"2026-11-29T10:00:00+01:00", b"2026-11-30T10:00:10+01:00"])
         self.assertEqual(self.it.past.begin, START)
+
+
+class NoHistory(Case):
+    def test_lines_of_an_audit_say_what_is_lacking(self) -> None:
+        for line in ("gone", "answers", "handles", "history", "trim"):
+            self.assertEqual(self.ask(line), f"elephant-mount: {NO_HISTORY}\n")
+
+
+class Auditing(Case):
+    has_history = True
+
+    def test_the_lines_of_an_audit(self) -> None:
+        self.save(b"f", b"one", b"two")
+        self.ask("policy /f safe:1h")
+        self.clocks.pass_by(2 * HOUR)
+        now = int(self.clocks.day)
+        self.ask("clean")
+        row = f"- {now} 1 1 /f due {START + HOUR} by age 3600"
+        self.assertEqual(self.ask("gone").splitlines()[1:], [row])
+        self.assertEqual(self.ask("why /f 1"), f"ok why removed {now} due {START + HOUR} by age 3600\n")
+        self.assertEqual(self.ask("why /f#1"), f"ok why removed {now} due {START + HOUR} by age 3600\n")
+        self.assertIn(f"removed {told(now)}, due since {told(START + HOUR)}: 1 hour after its end", self.ask("history /f"))
+        history = self.ask("history").splitlines()
+        self.assertEqual([it for it in history if it in ("- create /f", "- policy /f safe:3600", "- clean")],
+                         ["- create /f", "- policy /f safe:3600", "- clean"])
+        answers = self.ask("answers").splitlines()
+        self.assertEqual(answers[answers.index("- clean") + 1], f"ok removed {START + HOUR} 1 1")
+        self.assertEqual(self.ask("handles"), "ok handles 0\n")
+        node = self.it.open(self.it.file(b"f"))
+        self.it.contents.write(node, 0, b"x")
+        self.it.contents.save(node)
+        self.assertEqual(self.ask("handles").splitlines(), ["ok handles 1", f"- {node.handle} 1 draft {now} /f"])
+        self.it.contents.closed(node, True)
+        self.clocks.pass_by(DAY)
+        self.ask("clean")
+        self.assertEqual(len(self.ask("gone").splitlines()), 3)
+        self.assertEqual(self.ask("gone now"), "bad 32 Syntax\n- number of words: the command takes no words\n")
+
+    def test_it_has_what_was_before_it_and_before_a_journal_was_made_anew(self) -> None:
+        self.save(b"f", b"one", b"two", b"three")
+        self.ask("policy /f one")
+        while self.it.store.clean():
+            self.clocks.pass_by(10)
+        before = self.ask("gone")
+        self.assertEqual(len(before.splitlines()), 4)
+        self.again()
+        self.assertEqual(self.ask("gone"), before)
+
+    def test_trim_forgets_until_the_next_change(self) -> None:
+        self.save(b"f", b"one")
+        self.assertRegex(self.ask("trim"), "^ok trimmed [1-9]")
+        self.assertRegex(self.ask("history"), "^ok history [1-9][0-9]* 0\n$")
 
 
 class Typing(unittest.TestCase):

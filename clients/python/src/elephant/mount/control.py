@@ -19,6 +19,7 @@ from zlib import crc32
 
 from .. import BadName, ClockDoubt, ElephantError, Refused
 from ..keeping import AT, NoSpace, require_shown, told_time
+from .audit import LINES as AUDIT, Audit
 from .log import local
 from .marks import Marks
 from .names import name_in
@@ -58,11 +59,12 @@ Changes = list[tuple[Node, Optional[bytes]]]
 class Lines:
     """Runs lines of the script language, and `undo`, in a mounted store."""
 
-    def __init__(self, operations: Operations) -> None:
+    def __init__(self, operations: Operations, audit: Optional[Audit] = None) -> None:
         self.operations = operations
         self.store, self.tree, self.contents = operations.store, operations.tree, operations.contents
         self.undo = Undo(self.store, self.tree, self.contents, operations.past.store_at)
-        self.marks, self.stories = Marks(self.store, self.tree), Stories(self.store, self.tree)
+        self.audit = audit or Audit(self.store)
+        self.marks, self.stories = Marks(self.store, self.tree), Stories(self.store, self.tree, self.audit)
         self._is_of_one = False
         """Whether the last undo changed one name of a folder, and what is below it."""
         self.more: dict[str, Callable[[], str]] = {}
@@ -74,6 +76,8 @@ class Lines:
             return self.more[line](), []
         try:
             words = [spelled_path(it) for it in words_of(line)]
+            if words[0] in AUDIT:
+                self.audit.prepare()
         except ValueError as fault:
             return self._refusal(fault), []
         with self.operations.lock:
@@ -125,16 +129,18 @@ class Lines:
             words[_OF_MOMENTS[word]:] = [str(moment_in(words[_OF_MOMENTS[word]:], int(self.store.now)))]
         if word in ("policy", "default") and len(words) == 3:
             words[2] = policy_word(words[2])
-        answer = self._line(words)
+        answer = self.audit.line(" ".join(words)) if word in AUDIT else self._line(words)
         if word == "why" and answer.startswith("no 13 "):
             return self._why_removed("#".join(words[1:]), answer)
         return f"{answer}- {reason(words)}\n" if answer.startswith("bad ") and reason(words) else answer
 
     def _why_removed(self, target: str, answer: str) -> str:
-        """Returns the answer with when a version was removed, if the journal says so."""
+        """Returns why a version was removed, if the history has it, or when, if the journal says so."""
         path, _, number = target.partition("#")
+        if not number.isdigit() or self.audit.is_kept:
+            return self.audit.line(f"why {target}") if number.isdigit() else answer
         node = self.tree.find(as_bytes(path))
-        found = self.store.removals.of(node.number).get(int(number)) if number.isdigit() and isinstance(node, File) else None
+        found = self.store.removals.of(node.number).get(int(number)) if isinstance(node, File) else None
         return answer if found is None else f"{answer}- removed {local(found.moment)}, due since {local(found.since)}\n"
 
     def _mark(self, group: str, moments: list[int]) -> str:

@@ -13,6 +13,7 @@ import pyfuse3
 from .. import ClockDoubt, ElephantError, Limits
 from ..keeping import NoSpace
 from .ages import Ages
+from .audit import Audit
 from .contents import Contents
 from .control import Changes, Control, Lines
 from .disk import sync_all
@@ -42,6 +43,7 @@ class Asked(NamedTuple):
     older: tuple[str, ...] = ()
     is_guarded: bool = True
     moment: Optional[str] = None
+    has_history: bool = False
 
 
 class Mount:
@@ -56,7 +58,7 @@ class Mount:
         self.naming = Naming(self.store, self.tree, self.contents)
         self.past = Ages(self.store, self.tree, b"", [MountStore(it, read_only=True) for it in asked.older])
         self.operations = Operations(self.store, self.tree, self.contents, self.naming, self.past, self.log)
-        self.lines = Lines(self.operations)
+        self.lines = Lines(self.operations, Audit(self.store, asked.limits, asked.has_history))
         # One that only reads has a socket of its own: another mount may write the journal.
         self.control = Control(self.lines, f"{asked.journal} in {asked.folder}" if asked.is_read_only else asked.journal, self._tell_kernel)
         self.past.socket = os.fsencode(self.control.path)
@@ -151,6 +153,7 @@ class Mount:
         self.control.stop()
         self.keeper.stop()
         self.past.close()
+        self.lines.audit.close()
         if self.store.is_read_only:
             self.store.close()
             return True

@@ -6,8 +6,9 @@ import json
 from collections.abc import Iterator, Mapping, Sequence
 from typing import Any, NamedTuple, Optional, Union
 
-from .. import LAST_MOMENT, Cause, Current, Due, Fate, Kept, KeepSafe, Landmarks, Marked, Policy, Version
+from .. import LAST_MOMENT, Cause, Current, Due, Fate, Kept, KeepSafe, Landmarks, Marked, Policy, Removal, Removed, Version
 from ..keeping import span
+from .audit import Audit
 from .log import local
 from .past import text_of
 from .soon import SPANS, cause
@@ -25,14 +26,14 @@ class Chapter(NamedTuple):
 
     number: int
     row: Optional[Version]
-    fate: Union[Fate, NotedRemoval, None]
+    fate: Union[Fate, Removal, NotedRemoval, None]
 
 
 class Stories:
     """Answers `history FILE`."""
 
-    def __init__(self, store: MountStore, tree: Tree) -> None:
-        self._store, self._tree, self._where = store, tree, Whereabouts(store, tree)
+    def __init__(self, store: MountStore, tree: Tree, audit: Audit) -> None:
+        self._store, self._tree, self._audit, self._where = store, tree, audit, Whereabouts(store, tree)
 
     def answer(self, words: Sequence[str]) -> str:
         """Returns the answer to the words after `history`."""
@@ -80,14 +81,14 @@ class Stories:
     def _chapters(self, file: int, policy: Optional[Policy]) -> Iterator[Chapter]:
         """Yields the versions of a file, from the first one."""
         held = {it.number: it for it in self._where.versions_of(file)}
-        noted, last = self._store.removals.of(file), self._store.departed.get(file)
+        noted, removed, last = self._store.removals.of(file), self._audit.removals(file), self._store.departed.get(file)
         node = self._tree.files.get(file)
         newest = node.version if node is not None else max([*held, *noted, last.version if last else 0])
         ends = {} if node is not None else {it.number: it.since for it in self._store.ahead(LAST_MOMENT) if it.file == file}
         for number in range(1, newest + 1):
             row = held.get(number)
             if row is None:
-                yield Chapter(number, None, noted.get(number))
+                yield Chapter(number, None, removed.get(number) or noted.get(number))
             elif node is not None:
                 yield Chapter(number, row, self._store.why(node.path, version=number))
             else:
@@ -114,13 +115,14 @@ def _row(it: Chapter, policy: Optional[Policy], is_deleted: bool) -> str:
     return f"{it.number:>7}  {local(int(it.row.closed))}  {ended:<19}  {it.row.length:>9,}  {told_fate}"
 
 
-def _of_removed(fate: Union[Fate, NotedRemoval, None]) -> str:
-    if not isinstance(fate, NotedRemoval):
+def _of_removed(fate: Union[Fate, Removal, NotedRemoval, None]) -> str:
+    if not isinstance(fate, (Removed, Removal, NotedRemoval)):
         return "removed"
-    return f"removed {local(fate.moment)}, due since {local(fate.since)}"
+    why = "" if isinstance(fate, NotedRemoval) else _because(fate)
+    return f"removed {local(int(fate.moment))}, due since {local(int(fate.since))}{why and ': ' + why}"
 
 
-def _of_held(fate: Union[Fate, NotedRemoval, None], row: Version, policy: Optional[Policy], is_deleted: bool) -> str:
+def _of_held(fate: Union[Fate, Removal, NotedRemoval, None], row: Version, policy: Optional[Policy], is_deleted: bool) -> str:
     """Returns what keeps a version, and until when."""
     ended = int(row.ended or 0)
     if isinstance(fate, Current):
@@ -148,13 +150,13 @@ def _for_good(policy: Optional[Policy]) -> str:
     return "its policy keeps all"
 
 
-def _because(it: Due) -> str:
-    """Returns the cause of a version that is due."""
+def _because(it: Union[Due, Removed, Removal]) -> str:
+    """Returns the cause of a version that is due or was removed, if it is known."""
     if it.cause is Cause.BY_AGE:
         return f"{span(it.age or 0)} after its end"
     if it.cause is Cause.DISPLACED:
         return f"version {it.by} was saved in the same span"
-    return "its policy keeps only the newest"
+    return "" if it.cause is Cause.UNKNOWN else "its policy keeps only the newest"
 
 
 # For programs.
@@ -166,8 +168,9 @@ def _as_data(it: Chapter, policy: Optional[Policy], has_name: bool) -> dict[str,
     data: dict[str, Any] = {"number": it.number, "held": row is not None, "opened": None, "closed": None, "ended": None, "length": None}
     if row is not None:
         data.update(opened=_utc(row.opened), closed=_utc(row.closed), ended=_utc(row.ended), length=row.length)
-    if isinstance(fate, NotedRemoval):
-        data["fate"] = {"is": "removed", "moment": _utc(fate.moment), "since": _utc(fate.since), "cause": None}
+    if isinstance(fate, (Removed, Removal, NotedRemoval)):
+        data["fate"] = {"is": "removed", "moment": _utc(fate.moment), "since": _utc(fate.since)}
+        data["fate"]["cause"] = None if isinstance(fate, NotedRemoval) else _because(fate) or None
     elif row is None:
         data["fate"] = {"is": "removed", "moment": None, "since": None, "cause": None}
     elif isinstance(fate, Due):

@@ -1,0 +1,58 @@
+"""The history of a mount, for an audit: what its journal says, run again in a store that keeps a history.
+
+The mount's own store keeps none: it would grow by each question that a request asks. The journal has each change since its beginning, so
+the history begins there too, also if the folder is mounted with `--history` for the first time. It lacks what was only asked or refused,
+and the contents that a journal that was made anew has left out.
+"""
+
+from __future__ import annotations
+
+from typing import Optional
+
+from .. import ElephantError, Limits, Removal, Store
+from .store import MountStore
+
+# Lines of a store with a history.
+LINES = frozenset(("answers", "gone", "handles", "history", "trim"))
+NO_HISTORY = "this mount keeps no history: mount the folder with --history, and it has all since the journal began"
+
+
+class Audit:
+    """Answers the lines of an audit, if the mount is asked to."""
+
+    def __init__(self, store: MountStore, limits: Limits = Limits(), is_kept: bool = False) -> None:
+        self._store, self._limits, self.is_kept = store, limits, is_kept
+        self._found: Optional[Store] = None
+        self._seen: tuple[object, ...] = ()
+
+    def prepare(self) -> None:
+        """Runs the journal again, if a question needs that. Call it without the lock of the requests, which go on meanwhile."""
+        if self.is_kept:
+            self._asked()
+
+    def line(self, line: str) -> str:
+        """Returns the answer of the store with the history."""
+        return self._asked().line(line) if self.is_kept else f"elephant-mount: {NO_HISTORY}\n"
+
+    def removals(self, file: int) -> dict[int, Removal]:
+        """Returns the removed versions of a file, with the causes. Without a history it returns none."""
+        rows = self._asked().gone().removals if self.is_kept else ()
+        return {it.number: it for it in rows if it.file == file}
+
+    def close(self) -> None:
+        """Frees the memory."""
+        if self._found is not None:
+            self._found.close()
+        self._found, self._seen = None, ()
+
+    def _asked(self) -> Store:
+        """Returns a store that has what the journal has. It is made anew if the journal was changed."""
+        seen = self._store.journal.identity, self._store.journal_size
+        if self._found is None or seen != self._seen:
+            self.close()
+            try:
+                self._found = Store(self._store.journal_path, limits=self._limits, history=True, read_only=True)
+            except (ElephantError, OSError, MemoryError) as fault:
+                raise ValueError(f"the journal can't be run again: {fault or 'there is no memory'}") from fault
+            self._seen = seen
+        return self._found
