@@ -538,6 +538,15 @@ class Typing(unittest.TestCase):
         self.assertEqual(self.send("history", "--json", "d", answer='ok\n{"a": 1}\n')[1:], (0, '{"a": 1}\n'))
         self.assertEqual(self.send("history", "--json", "d", answer="no: d is a folder\n")[1:], (1, "no: d is a folder\n"))
 
+    def test_the_help_has_the_lines_in_80_columns(self) -> None:
+        printed = io.StringIO()
+        with contextlib.redirect_stdout(printed), self.assertRaises(SystemExit):
+            main.main(["--help"])
+        text = printed.getvalue()
+        self.assertLessEqual(max(map(len, text.splitlines())), 80)
+        for word in ("undo FILE '#3'", "redo FILE", "history FILE", "policy FILE safe:30d/3", "rewrite"):
+            self.assertIn(word, text)
+
 
 if __name__ == "__main__":
     unittest.main()

@@ -16,13 +16,50 @@ from ..keeping import about
 from .client import ask, typed_line
 from .wording import JSON, line_of, words_of
 
-_DESCRIPTION = "Mounts a folder that keeps each save of each file as a version, and sends lines to a mounted one."
-_EPILOG = "elephant-mount move OLD NEW makes a new journal with what OLD has now, and --past OLD then shows OLD's past beside it."
+_DESCRIPTION = "Mounts a folder that keeps each save of each file as a version,\nand sends lines to a mounted one."
+_EPILOG = """\
+elephant-mount --at FOLDER LINE sends one of these lines to a mounted folder,
+and prints its answer. A MOMENT is a time as you type it: 'yesterday 15:00'.
+
+  undo FILE             bring back what it held before its last save; again:
+                        before that; a deleted file or folder comes back
+  undo FOLDER           bring back what was in it before its last changes
+  undo FILE MOMENT      as it was then; of a FOLDER too
+  undo FILE '#3'        what its version 3 held
+  redo FILE             take the last undo back
+  history FILE          its versions, and until when each is kept, and why
+  policy FILE safe:30d/3
+                        keep its versions for 30 days, and 3 for good
+  default FOLDER standard
+                        the policy of new files in it
+  why FILE 2            why version 2 stays, or since when it may go
+  due, ahead MOMENT     what may be removed now, or at that moment
+  clean all             remove all that is due now
+  group make G, group add G FILE, mark G MOMENT [until MOMENT], unmark G MOMENT
+                        keep what the files of a group held at a moment
+  gone, answers, handles, history, trim
+                        an audit of a mount with --history
+  usage, time, time is right, journal, rewrite, dump
+                        counts, the clock, the journal, policies as lines
+
+undo and redo take --dry-run; history takes --json. Each line of the
+script language works too: elephant help script lists them. .elephant in the
+folder has the past: .elephant/at, versions, restorable, soon, limits.
+
+elephant-mount move OLD NEW makes a new journal with what OLD has now, and
+--past OLD then shows OLD's past beside it."""
 _MISSING = "elephant-mount: {}: on Debian, 'apt-get install python3-pyfuse3 fuse3' installs it, for /usr/bin/python3"
 
 
+class _Help(argparse.RawDescriptionHelpFormatter):
+    """Prints the lines as they are, in 80 columns everywhere."""
+
+    def __init__(self, prog: str) -> None:
+        super().__init__(prog, width=80)
+
+
 def _parser() -> argparse.ArgumentParser:
-    words = argparse.ArgumentParser(prog="elephant-mount", description=_DESCRIPTION, epilog=_EPILOG)
+    words = argparse.ArgumentParser(prog="elephant-mount", description=_DESCRIPTION, epilog=_EPILOG, formatter_class=_Help)
     words.add_argument("folder", metavar="FOLDER", nargs="?", help="an empty folder, where the files appear")
     words.add_argument("--journal", metavar="FILE", help="the file that keeps all of it; it is made if it doesn't exist")
     words.add_argument("--every", type=float, default=0, metavar="MINUTES", help="make versions of files that stay open, as often as this")
