@@ -1,4 +1,4 @@
-"""Lines that people type to a mounted folder: one file's story, marks, policies, undo and redo; the moments that a folder lists;
+"""Lines that people type to a mounted folder: one file's story, changes, marks, policies, undo and redo; the moments that a folder lists;
 an audit; and why a line is bad."""
 
 from __future__ import annotations
@@ -49,7 +49,7 @@ def lines(room: str, asked: argparse.Namespace) -> Counts:
         (top / "d" / "my plan").write_text("one")
         first = next_second()
         (top / "d" / "my plan").write_text("two!!")
-        next_second()
+        second = next_second()
         _tell(seen, mounted, first)
         _undo(seen, mounted, top / "d" / "my plan")
         listed = os.listdir(hidden / "at")
@@ -59,6 +59,7 @@ def lines(room: str, asked: argparse.Namespace) -> Counts:
         seen.expect("its log", "this folder begins at" in mounted.log(), True)
         answer = mounted.ask("undo", "d/my plan", f"@{before - 1}")
         seen.expect("an undo to it", (answer[:3], "this folder begins at" in answer), ("no:", True))
+        _changes(seen, mounted, second)
         seen.expect("no history", "mount the folder with --history" in mounted.ask("gone"), True)
     return seen.counts()
 
@@ -100,6 +101,24 @@ def _undo(seen: Faults, mounted: Mounted, place: Path) -> None:
     mounted.stop()
     mounted.start()
     seen.expect("an undo after another mount", (mounted.ask("undo", "d/my plan")[:12], place.read_text()), ("ok version 1", "three"))
+
+
+def _changes(seen: Faults, mounted: Mounted, second: int) -> None:
+    """What a script did between two moments."""
+    top = mounted.folder
+    (top / "kept").write_text("x")
+    begin = next_second()
+    (top / "d" / "my plan").rename(top / "plan")
+    (top / "fresh").write_text("x")
+    (top / "kept").write_text("y")
+    next_second()
+    rows = [dated(it) for it in mounted.ask("changes", f"@{begin}", "now").splitlines()]
+    seen.expect("changes", rows[1:], [
+        "DATE  made          fresh", "DATE  saved         kept, version 3 after 2", "DATE  renamed       plan, before d/my plan",
+    ])
+    seen.expect("their count", rows[0].endswith(": 1 made, 1 saved, 1 renamed"), True)
+    data = json.loads(mounted.ask("changes", str(second), "now", "plan", "--json"))
+    seen.expect("of one path", [(it["what"], it["before"]) for it in data], [("renamed", "d/my plan"), ("saved", None)])
 
 
 def audits(room: str, asked: argparse.Namespace) -> Counts:

@@ -12,7 +12,7 @@ from mount import mounts
 
 PAGES = [ROOT / "docs" / it for it in ("MOUNT.md", "FAQ.md")]
 MARK = "== command"
-TIME = re.compile(r"\d{4}-\d\d-\d\d \d\d:\d\d:\d\d [+-]\d\d:\d\d")
+TIME = re.compile(r"\d{4}-\d\d-\d\d \d\d:\d\d:\d\d(?: [+-]\d\d:\d\d)?")
 
 
 def commands_in(page: str) -> list[tuple[str, str]]:

@@ -1,4 +1,4 @@
-"""The lines of a mount that people type: marks, policies, undo and redo, the story of a file, the moments, and an audit. Without a
+"""The lines of a mount that people type: marks, policies, undo and redo, the story of a file, changes, the moments, and an audit. Without a
 kernel, by a clock that a test moves. It needs pyfuse3."""
 
 from __future__ import annotations
@@ -435,6 +435,68 @@ class Listing(Case):
         self.assertEqual(self.it.past.begin, START)
 
 
+class Changing(Case):
+    def test_each_kind_of_change(self) -> None:
+        it = self.it
+        d = it.naming.mkdir(it.top, b"d", FOLDER, 0, 0)
+        for name in (b"saved", b"moved", b"lost", b"same"):
+            it.save(name, b"one", d)
+        it.save(b"back", b"one", d)
+        it.naming.unlink(d, b"back")
+        d.left.clear()
+        self.clocks.pass_by(60)
+        first = int(self.clocks.day) - 1
+        it.save(b"saved", b"two", d)
+        self.clocks.pass_by(10)
+        it.save(b"saved", b"three", d)
+        it.naming.rename(d, b"moved", it.top, b"here", 0)
+        self.clocks.pass_by(10)
+        it.naming.unlink(d, b"lost")
+        d.left.clear()
+        self.assertRegex(self.ask("undo /d/back"), "^ok")
+        it.save(b"fresh", b"one", d)
+        self.clocks.pass_by(10)
+        begin = first + 1
+        rows = [
+            f"{told(begin + 20)}  brought back  d/back", f"{told(begin + 20)}  made          d/fresh",
+            f"{told(begin + 20)}  deleted       d/lost", f"{told(begin + 10)}  saved         d/saved, version 4 after 2",
+            f"{told(begin + 10)}  renamed       here, before d/moved",
+        ]
+        head = "from 2026-11-29 10:00:59 +01:00 to 2026-11-29 10:01:30 +01:00: 1 made, 1 saved, 1 renamed, 1 deleted, 1 brought back"
+        self.assertEqual(self.ask(f"changes {first} now"), "\n".join([f"ok / {head}", *rows, ""]))
+        self.assertEqual(self.ask("changes now 2026-11-29 10:00:59 /d").splitlines()[1:], rows)
+        self.assertEqual(self.ask(f"changes {first} now /d/saved").splitlines()[1:], rows[3:4])
+        self.assertEqual(self.ask(f"changes {begin + 20} now").splitlines(), [
+            "ok / from 2026-11-29 10:01:20 +01:00 to 2026-11-29 10:01:30 +01:00: nothing"])
+        data = json.loads(self.ask(f"changes {first} now /here --json")[3:])
+        self.assertEqual(data, [
+            {"what": "renamed", "path": "here", "moment": "2026-11-29T09:01:10Z", "before": "d/moved", "versions": None}])
+
+    def test_a_folder_that_was_renamed_is_one_change(self) -> None:
+        it = self.it
+        d = it.naming.mkdir(it.top, b"d", FOLDER, 0, 0)
+        it.save(b"f", b"one", d)
+        self.clocks.pass_by(10)
+        it.naming.rename(it.top, b"d", it.top, b"e", 0)
+        self.clocks.pass_by(10)
+        answer = self.ask(f"changes {START} now").splitlines()
+        self.assertEqual(answer[1:], [f"{told(START + 10)}  renamed       e, before d"])
+
+    def test_a_removed_version(self) -> None:
+        self.save(b"f", b"one", b"two")
+        self.ask("policy /f one")
+        while self.it.store.clean():
+            pass
+        self.assertEqual(self.ask(f"changes {START} now").splitlines()[1:], [f"{told(START + 10)}  saved         f"])
+
+    def test_what_has_no_answer(self) -> None:
+        self.save(b"f", b"one")
+        self.assertIn("is not two moments", self.ask("changes now soon"))
+        self.assertIn("changes takes two moments", self.ask("changes now"))
+        self.assertRegex(self.ask(f"changes {START} now /g"), "^no: there was no g at ")
+        self.assertRegex(self.ask(f"changes {START} 2027-01-01"), "^no: .* is to come")
+
+
 class NoHistory(Case):
     def test_lines_of_an_audit_say_what_is_lacking(self) -> None:
         for line in ("gone", "answers", "handles", "history", "trim"):
@@ -528,6 +590,10 @@ class Typing(unittest.TestCase):
             (("undo a deleted one #2",), "undo /a%20deleted%20one '#2'"),
             (("history d/my plan --json",), "history --json /d/my%20plan"),
             (("history",), "history"),
+            (("changes", "2 hours ago", "now", "d"), "changes '2 hours ago' now /d"),
+            (("changes 2 hours ago now",), "changes 2 hours ago now"),
+            (("changes", "--json", "2 hours ago", "now", "d"), "changes '2 hours ago' now /d --json"),
+            (("changes", "2 hours ago", "now", "d", "--json"), "changes '2 hours ago' now /d --json"),
             (("mark", "g", "2026-11-29 10:00"), "mark g '2026-11-29 10:00'"),
             (("restore", "/f", "1795942800"), "restore /f 1795942800"),
         ):
@@ -544,7 +610,7 @@ class Typing(unittest.TestCase):
             main.main(["--help"])
         text = printed.getvalue()
         self.assertLessEqual(max(map(len, text.splitlines())), 80)
-        for word in ("undo FILE '#3'", "redo FILE", "history FILE", "policy FILE safe:30d/3", "rewrite"):
+        for word in ("undo FILE '#3'", "redo FILE", "history FILE", "changes MOMENT MOMENT", "policy FILE safe:30d/3", "rewrite"):
             self.assertIn(word, text)
 
 

@@ -12,7 +12,7 @@ from typing import Optional
 from elephant import BadTime
 from elephant.mount.reasons import TAKES, reason
 from elephant.mount.timeline import Moments, Removals
-from elephant.mount.typed import moment_in, moments_in, policy_word, version_in
+from elephant.mount.typed import moment_in, moments_in, policy_word, two_moments_in, version_in
 
 SCRIPT = Path(__file__).resolve().parents[3] / "docs" / "SCRIPT.md"
 DAY, HOUR = 86_400, 3600
@@ -66,6 +66,19 @@ class Words(Berlin):
         for words in (["soon"], ["yesterday"], ["2026-11-29", "until"], ["now", "now", "now"], ["until", "now"]):
             with self.assertRaises(BadTime, msg=words):
                 moments_in(words, NOW)
+
+    def test_two_moments(self) -> None:
+        for words, wanted in (
+            (["2026-11-29", "09:00", "2026-11-29", "09:30"], [TEN - HOUR, TEN - HOUR // 2]),
+            (["2", "hours", "ago", "now"], [TEN - 2 * HOUR, TEN]),
+            (["yesterday 10:00", "1 hour ago"], [TEN - DAY, TEN - HOUR]),
+            (["2026-11-29", "09:00", "now"], [TEN - HOUR, TEN]),
+        ):
+            self.assertEqual(two_moments_in(words, NOW), wanted, words)
+        others: list[list[str]] = [["now"], [], ["2026-11-29", "soon"], ["now", "now", "now"]]
+        for words in others:
+            with self.assertRaisesRegex(BadTime, "is not two moments", msg=words):
+                two_moments_in(words, NOW)
 
     def test_a_small_number_is_a_moment_and_a_version_has_a_sign(self) -> None:
         self.assertEqual((moment_in(["7"], NOW), version_in(["#7"]), version_in(["#12"])), (7, 7, 12))

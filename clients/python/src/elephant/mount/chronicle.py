@@ -38,6 +38,10 @@ class Chronicle:
         """Returns the names that a file had, in the order in which they ended."""
         return self._names.get(file, [])
 
+    def ends_of_key(self, key: int) -> list[int]:
+        """Returns when the names of a file or a directory ended, by twice its number, and one more for a directory."""
+        return [it.until for it in (self._places if key & 1 else self._names).get(key >> 1, [])]
+
     def note_moved(self, parent: int, name: bytes) -> None:
         """Notes that what had a name, which has ended, goes on under another one."""
         self._moved.add((parent, name))

@@ -31,10 +31,24 @@ def typed_line(folder: str, text: str, words: list[str]) -> list[str]:
     word, rest = words[0], [it for it in words if it]
     if word in _OF_FILES and len(rest) > 1 or word == "restore" and not (len(words) == 3 and words[1][:1] == "/" and words[2].isdigit()):
         return _undo_line(folder, text, rest)
+    if word == "changes":
+        options, rest = [it for it in rest if it.startswith("--")], [it for it in rest if not it.startswith("--")]
+        path = [_spelled(folder, rest.pop())] if len(rest) > 3 and _is_path(folder, rest[-1]) else []
+        return [*rest, *path, *options]
     for at in _PATHS.get(word, ()):
         if at < len(words) and (not words[at].startswith("/") or _is_below(os.path.abspath(words[at]), mount_of(folder))):
             words[at] = _spelled(folder, words[at])
     return words
+
+
+def _is_path(folder: str, word: str) -> bool:
+    """Whether the last word of a line is a path, and no time."""
+    if word.startswith(("/", "./")):
+        return True
+    with suppress(BadTime):
+        read_time(word, int(time.time()))
+        return False
+    return os.path.lexists(word) or os.path.lexists(os.path.join(folder, word))
 
 
 def _is_below(path: str, top: str) -> bool:

@@ -25,6 +25,7 @@ from .marks import Marks
 from .names import name_in
 from .operations import Operations
 from .reasons import reason
+from .spans import Spans
 from .story import Stories
 from .tree import Directory, File, Node
 from .typed import moment_in, moments_in, policy_word, version_in
@@ -47,6 +48,8 @@ _SHORT = frozenset(("clean", "default", "group", "mark", "pass", "policy", "unma
 _UNDOING = frozenset(("undo", "redo", "undelete", "revert", "restore"))
 _OF_FILES = frozenset(("undo", "redo"))
 _TAKEN = {"undo": "a file or a folder, a moment or the number of a version, as '#3', if you like", "redo": "a file"}
+# A line of the mount's own that changes nothing.
+_LOOKS = frozenset(("changes",))
 # The place of the moment in lines that end with one.
 _OF_MOMENTS = {"unmark": 2, "ahead": 1}
 _MAKE = frozenset(("mkdir", "create", "link", "rename"))
@@ -65,6 +68,7 @@ class Lines:
         self.undo = Undo(self.store, self.tree, self.contents, operations.past.store_at)
         self.audit = audit or Audit(self.store)
         self.marks, self.stories = Marks(self.store, self.tree), Stories(self.store, self.tree, self.audit)
+        self.spans = Spans(self.store, operations.past.store_at)
         self._is_of_one = False
         """Whether the last undo changed one name of a folder, and what is below it."""
         self.more: dict[str, Callable[[], str]] = {}
@@ -89,7 +93,7 @@ class Lines:
                     with self.store.quota.undoing(words[0] in _UNDOING):
                         text = self._answer(words)
                 finally:  # the store may have done what the journal couldn't take
-                    changes = [] if words[0] in _ASK | _SHORT else list(self._refreshed(words))
+                    changes = [] if words[0] in _ASK | _SHORT | _LOOKS else list(self._refreshed(words))
             except (ElephantError, Nothing, NoSpace, OSError, ValueError) as fault:
                 text = self._refusal(fault)
         return text, changes
@@ -123,6 +127,8 @@ class Lines:
             return self._undo(words)
         if word == "history" and len(words) > 1:
             return self.stories.answer(words[1:])
+        if word == "changes":
+            return self.spans.answer(words[1:])
         if word == "mark" and len(words) > 2:
             return self._mark(words[1], moments_in(words[2:], int(self.store.now)))
         if word in _OF_MOMENTS and len(words) > _OF_MOMENTS[word]:

@@ -28,6 +28,8 @@ and prints its answer. A MOMENT is a time as you type it: 'yesterday 15:00'.
   undo FILE '#3'        what its version 3 held
   redo FILE             take the last undo back
   history FILE          its versions, and until when each is kept, and why
+  changes MOMENT MOMENT [PATH]
+                        what was made, saved, renamed, deleted between them
   policy FILE safe:30d/3
                         keep its versions for 30 days, and 3 for good
   default FOLDER standard
@@ -42,7 +44,7 @@ and prints its answer. A MOMENT is a time as you type it: 'yesterday 15:00'.
   usage, time, time is right, journal, rewrite, dump
                         counts, the clock, the journal, policies as lines
 
-undo and redo take --dry-run; history takes --json. Each line of the
+undo and redo take --dry-run; history and changes take --json. Each line of the
 script language works too: elephant help script lists them. .elephant in the
 folder has the past: .elephant/at, versions, restorable, soon, limits.
 

@@ -71,7 +71,7 @@ class Stories:
         if isinstance(node, File):
             return node.number
         if isinstance(node, Directory):
-            raise Nothing(f"{told(path)} is a folder: history is of one file")
+            raise Nothing(f"{told(path)} is a folder: history is of one file, and changes of a folder")
         named = self._tree.files
         lost = [(last.ended, number) for number, last in self._store.departed.items() if last.path == path and number not in named]
         if not lost:

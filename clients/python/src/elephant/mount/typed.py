@@ -51,6 +51,15 @@ def moments_in(words: Sequence[str], now: int) -> list[int]:
         return found[0]
 
 
+def two_moments_in(words: Sequence[str], now: int) -> list[int]:
+    """Returns the two moments that words are. Raises BadTime."""
+    found = list(_pairs(words, now))
+    if len(found) != 1:
+        told = " ".join(words)
+        raise BadTime(f"{told!r} is not two moments: write both, each in quotes if it has a space, as 'yesterday 15:00' now")
+    return found[0]
+
+
 def _pairs(words: Sequence[str], now: int) -> Iterator[list[int]]:
     """Yields each way to take words as two moments."""
     for at in range(1, len(words)):
