@@ -5,6 +5,7 @@ mod Times
 mod Named
 mod Placed
 mod Kept
+mod Entered
 mod Members
 mod Covered
 mod Forgotten

@@ -3,6 +3,7 @@
 ghost use Rattle.std.specs.Prelude.{◌≡◌, map, ◌==◌, ◌&&◌, not, ℕ, false, OnOk, OnErr, IfOk};
 ghost use Rattle.ele_model.specs.GroupRows.{new_group, is_member, has_mark, adds, removes, forgets, marks, unmarks};
 ghost use Rattle.ele_groups.specs.Except.{row_cover};
+ghost use Rattle.ele_groups.specs.Rows.{HasOnce};
 
 use crate::marks::Marks;
 use crate::span::Span;
@@ -42,6 +43,19 @@ impl Group {
             members: Vec::new(alloc),
             marks: Marks::new(alloc),
         }
+    }
+
+    /// Makes the group of the row, which has each file and each moment once. `NoMemory` if memory
+    /// is refused.
+    pub fn from_row(alloc: Global, row: &GroupRow) -> Result<Group, NoMemory>
+        requires { HasOnce row.now }
+        ensures { IfOk result (λ group. group ≡ row.now) }
+    {
+        Ok(Group {
+            name: row.name,
+            members: Vec::from_slice(alloc, row.members.as_slice())?,
+            marks: Marks::from_rows(alloc, row.marks.as_slice())?,
+        })
     }
 
     /// Returns its name.

@@ -8,13 +8,16 @@ ghost use Rattle.ele_model.specs.Cover.{cover_by, cover_of};
 ghost use Rattle.ele_model.specs.declared.cover.Cover.TheVariants.{Free};
 ghost use Rattle.ele_model.specs.GroupsAsked.{members_of, marks_of, cover_without};
 ghost use Rattle.ele_groups.specs.Faults.{make_fault, drop_fault, add_fault, remove_fault, mark_fault, unmark_fault, Fails, answer_of};
-ghost use Rattle.ele_groups.specs.Rows.{row_of};
+ghost use Rattle.ele_groups.specs.Rows.{HasOnce, row_of};
+ghost use Rattle.ele_lists.specs.Lists.{AllLater};
+ghost use Rattle.std.specs.List.{AllByRecursion};
+ghost use Rattle.std.specs.Str.{bytes_eq};
 
 use crate::covering::{cover, cover_at};
 use crate::fault::GroupFault;
 use crate::group::Group;
 use crate::memberships::{Membership, Memberships};
-use crate::rows::{add_to, mark_at, remove_from, unmark_at};
+use crate::rows::{add_to, mark_at, put_row, remove_from, unmark_at};
 use crate::span::{Except, Span};
 use ele_lists::ListOf;
 use ele_model::{Cover, GroupRow, MarkRow};
@@ -54,6 +57,29 @@ impl Groups {
             memberships: Memberships::new(alloc),
             alloc,
         }
+    }
+
+    /// Makes the groups of these rows, in their order. No two rows have one name, and each has its
+    /// files and the moments of its marks once.
+    ///
+    /// `NoMemory` if memory is refused.
+    /// Cost: the rows and their files, and their marks times the logarithm of how many a group has.
+    pub fn from_rows(alloc: Global, rows: &[GroupRow]) -> Result<Groups, NoMemory>
+        requires named { AllLater
+            (λ earlier later. bytes_eq earlier.name later.name ≡ false) rows.now }
+        requires once { AllByRecursion HasOnce rows.now }
+        ensures { IfOk result (λ groups. groups ≡ rows.now) }
+    {
+        let mut named = IndexMap::new(alloc);
+        let mut memberships = Memberships::new(alloc);
+        for row in rows {
+            put_row(&mut named, &mut memberships, row, alloc)?;
+        }
+        Ok(Groups {
+            rows: named,
+            memberships,
+            alloc,
+        })
     }
 
     /// Makes a group without files and marks.

@@ -1,6 +1,6 @@
 //! The marks of one group, and how long those between two moments hold.
 //! A contract sees them as their list in order of making.
-ghost use Rattle.std.specs.Prelude.{◌≡◌, vec_capacity, vec_len, ◌<◌, ◌≤◌, ◌==◌, ◌∷◌, ◌++◌, ℕ, [], not, false, filter, position, Some, if◌then◌else◌, IfSome, IfNone, OnOk, OnErr};
+ghost use Rattle.std.specs.Prelude.{◌≡◌, vec_capacity, vec_len, ◌<◌, ◌≤◌, ◌==◌, ◌∷◌, ◌++◌, ℕ, [], not, false, filter, position, Some, if◌then◌else◌, IfOk, IfSome, IfNone, OnOk, OnErr};
 ghost use Rattle.std.specs.BTreeMap.{get};
 ghost use Rattle.std.specs.List.{list_any};
 ghost use Rattle.std.specs.Ordering.{nat_cmp};
@@ -44,6 +44,19 @@ impl Marks {
             made: Vec::new(alloc),
             times: BTreeMap::new(alloc),
         }
+    }
+
+    /// Makes the list of these marks, no two of which are at one moment. `NoMemory` if memory is
+    /// refused.
+    pub fn from_rows(alloc: Global, rows: &[MarkRow]) -> Result<Marks, NoMemory>
+        requires { AreMarksApart rows.now }
+        ensures { IfOk result (λ marks. marks ≡ rows.now) }
+    {
+        let mut marks = Marks::new(alloc);
+        for mark in rows {
+            marks.add(mark)?;
+        }
+        Ok(marks)
     }
 
     /// Returns the marks in order of making.

@@ -71,6 +71,18 @@ impl Memberships {
         }
     }
 
+    /// Adds a group to the groups of each of the files. `NoMemory` if memory is refused; some of
+    /// the files may then have it.
+    pub fn enter(&mut self, files: &[FileId], membership: &Membership) -> Result<(), NoMemory>
+        ensures { OnOk result ((q : ℕ) (n : List ℕ) → has self.new q n ≡ (has self.old q n
+            || (bytes_eq membership.now.name n && list_any (λ file. file == q) files.now))) }
+    {
+        for file in files {
+            self.insert(*file, *membership)?;
+        }
+        Ok(())
+    }
+
     /// Removes the name from the file's groups, if it is there. It takes no memory.
     pub fn remove(&mut self, file: FileId, name: &Name)
         ensures { (q : ℕ) (n : List ℕ) → has self.new q n

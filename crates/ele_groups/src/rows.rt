@@ -1,17 +1,44 @@
 //! Changes of the group of one name.
 //! A contract sees the groups as their rows, each under its name.
-ghost use Rattle.std.specs.Prelude.{◌≡◌, ◌==◌, ◌&&◌, not, ℕ, false, OnOk, OnErr};
+ghost use Rattle.std.specs.Prelude.{◌≡◌, ◌==◌, ◌&&◌, ◌∷◌, ◌++◌, [], not, ℕ, false, OnOk, OnErr};
 ghost use Rattle.std.specs.List.{IsDistinct};
-ghost use Rattle.std.specs.Map.{keys_of};
+ghost use Rattle.std.specs.Map.{keys_of, values_of};
 ghost use Rattle.std.specs.Option.{option_map_or};
 ghost use Rattle.std.specs.Str.{bytes_eq};
-ghost use Rattle.ele_model.specs.GroupRows.{has_mark, adds, removes, forgets, marks, unmarks};
-ghost use Rattle.ele_groups.specs.Kept.{changed_at, has_file, row_at};
+ghost use Rattle.ele_model.specs.GroupRows.{has_group, has_mark, adds, removes, forgets, marks, unmarks};
+ghost use Rattle.ele_groups.specs.Kept.{AreKept, changed_at, has_file, row_at};
+ghost use Rattle.ele_groups.specs.Rows.{HasOnce};
 
 use crate::group::Group;
-use ele_model::MarkRow;
+use crate::memberships::{Membership, Memberships};
+use ele_model::{GroupRow, MarkRow};
 use ele_moment::{FileId, Moment, Name, NoMemory};
 use indexmap::IndexMap;
+use std::alloc::Global;
+
+/// Adds the group of the row, whose name is new, with its files. If memory is refused, some of the
+/// files may have its name.
+pub fn put_row(
+    rows: &mut IndexMap<Name, Group>,
+    memberships: &mut Memberships,
+    row: &GroupRow,
+    alloc: Global,
+) -> Result<(), NoMemory>
+    requires kept { AreKept rows.old.entries memberships.old }
+    requires new { has_group (values_of rows.old.entries) row.now.name ≡ false }
+    requires once { HasOnce row.now }
+    ensures kept { OnOk result (AreKept rows.new.entries memberships.new) }
+    ensures rows { OnOk result
+        (values_of rows.new.entries ≡ values_of rows.old.entries ++ row.now ∷ []) }
+{
+    let membership = Membership {
+        name: row.name,
+        place: rows.len(),
+    };
+    memberships.enter(row.members.as_slice(), &membership)?;
+    rows.insert(row.name, Group::from_row(alloc, row)?)?;
+    Ok(())
+}
 
 /// Adds the file to the group.
 #[tactic(auto, using(crate::proofs::Basics::nat_tests, crate::proofs::Basics::set_value_same))]
