@@ -9,6 +9,7 @@ pub mod Given
 pub mod Numbering
 pub mod Added
 pub mod Gone
+pub mod Restored
 pub mod Told
 pub mod Dead
 pub mod Leads

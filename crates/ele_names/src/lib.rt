@@ -4,6 +4,7 @@
 
 mod birth_index;
 mod found;
+mod from_rows;
 mod live_names;
 mod names;
 mod numbered;
