@@ -6,7 +6,7 @@ pub use Rattle.ele_blocks.proofs.Renewals.{back_ready, front_ready, HaveCome, is
 pub use Rattle.ele_blocks.proofs.Splices.{patched}
 pub use Rattle.ele_blocks.proofs.Changes.{cut_change, cut_long, cut_reach, grown, reach, resized_same, write_change, written_nothing}
 pub use Rattle.ele_blocks.proofs.Runs.{inside, IsRun, leaves_new, now_room, part_backed, part_owned, placed, replaced, window_there}
-pub use Rattle.ele_blocks.proofs.Counts.{counted-more, is_counted, leaves_with_last, none_leaves, owned_gone, owned_less, owned_more, owned_new, owners-counted, room_after, room_in, room_of, sets_gone, sets_less, sets_more, sets_new}
+pub use Rattle.ele_blocks.proofs.Counts.{counted-more, is_counted, leaves_with_last, none_leaves, owned_gone, owned_less, owned_more, owned_new, owners-counted, room_after, room_in, room_of, room_same, sets_gone, sets_less, sets_more, sets_new}
 pub use Rattle.ele_blocks.specs.SharedInside.{counted}
 -- the names that attributes give
 pub use Rattle.ele_blocks.proofs.Lemmas.{length-append as length_append, length-content as length_content, length-drop as length_drop, length-take as length_take, length-take-le as length_take_le, slots-count as slots_count, take-add as take_add, take-nil as take_nil}

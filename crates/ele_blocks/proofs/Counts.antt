@@ -70,3 +70,7 @@ module _ {X : Type 0} where
 
   pub room_after : (values new : Slab X) (counts : List ℕ) (id : ℕ) → slab_len new ≡ slab_len values + 1 → new.capacity ≡ values.capacity → (more : ℕ) → HasRoomFor (counted_with values counts) (1 + more) → HasRoomFor (counted_with new (set counts id 1)) more
   room_after values new counts id longer same more room = grind (arith, room_in values counts more room, room_of new (set counts id 1) more, length-set counts id 1)
+
+  -- a count that changes takes no room
+  pub room_same : (values : Slab X) (counts : List ℕ) (id n : ℕ) (more : ℕ) → HasRoomFor (counted_with values counts) more → HasRoomFor (counted_with values (set counts id n)) more
+  room_same values counts id n more room = grind (arith, nat_tests, count-counted, length-set counts id n)

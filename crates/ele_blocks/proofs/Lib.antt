@@ -10,8 +10,11 @@ pub mod Lemmas
 pub mod Distincts
 pub mod OneToOnes
 pub mod Renewals
+pub mod Placings
 pub mod Stocks
+pub mod PlacedStocks
 pub mod Changes
 pub mod Runs
+pub mod Makings
 mod Counts
 mod Cited

@@ -27,7 +27,7 @@ pub record IsSlot (n : Named) (file first : ℕ) (slots : List Slot) : Type 0 wh
   pub got : slice_get slots place ≡ Some cell
   pub is : n ≡ name_of file (first + place) cell
 
-slot_from : (n : Named) (file first : ℕ) (slots : List Slot) → IsIn n (names_from file first slots) → IsSlot n file first slots
+pub slot_from : (n : Named) (file first : ℕ) (slots : List Slot) → IsIn n (names_from file first slots) → IsSlot n file first slots
 slot_from n file first [] i = absurd i
 slot_from n file first (x ∷ xs) i = ⊎_elim (λ (e : n ≡ name_of file first x). record { place = 0; cell = x; got = refl; is = grind (arith) })
     (λ (j : IsIn n (names_from file (first + 1) xs)). let h = slot_from n file (first + 1) xs j in record { place = suc h.place; cell = h.cell; got = h.got; is = grind (arith, h.is) }) i
@@ -41,7 +41,7 @@ times_got k [] x e = absurd cc
 times_got k (y ∷ ys) x e = grind (arith, nat_tests, times_got (k - 1) ys x)
 
 -- the same block in two places is named twice
-times_two : (j k : ℕ) (slots : List Slot) (x y : Slot) → j < k → slice_get slots j ≡ Some x → slice_get slots k ≡ Some y → x.block ≡ y.block → 1 < times x.block (ids_of slots)
+pub times_two : (j k : ℕ) (slots : List Slot) (x y : Slot) → j < k → slice_get slots j ≡ Some x → slice_get slots k ≡ Some y → x.block ≡ y.block → 1 < times x.block (ids_of slots)
 times_two j k [] x y lt e h b = absurd cc
 times_two j k (z ∷ zs) x y lt e h b = grind (arith, nat_tests, times_got, times_two (j - 1) (k - 1) zs x y)
 

@@ -6,7 +6,7 @@ use Rattle.std.proofs.lemmas.Simd.{map-map}
 use Rattle.std.proofs.lemmas.List.{map-id}
 
 -- values that are there are the lists
-values_are : {X : Type 0} (s : List (Option (Counted (List X)))) (ids : List ℕ) (xs : List (List X)) → map (value_at s) ids ≡ map (λ x. Some x) xs → map (λ id. unwrap_or (value_at s id) []) ids ≡ xs
+pub values_are : {X : Type 0} (s : List (Option (Counted (List X)))) (ids : List ℕ) (xs : List (List X)) → map (value_at s) ids ≡ map (λ x. Some x) xs → map (λ id. unwrap_or (value_at s id) []) ids ≡ xs
 values_are {X = X} s ids xs h = sym (map-map (λ (v : Option (List X)). unwrap_or v []) (value_at s) ids) ∙ (ap (map (λ (v : Option (List X)). unwrap_or v [])) h ∙ (map-map (λ (v : Option (List X)). unwrap_or v []) (λ (x : List X). Some x) xs ∙ map-id xs))
 
 pub times_laid : (window : List Slot) (first w : ℕ) (fresh : List ℕ) (q : ℕ) → times q (ids_of (laid_over first (map (slot_by w) fresh) window)) ≡ times q (ids_of (take first window)) + (times q fresh + times q (ids_of (drop (first + length fresh) window)))

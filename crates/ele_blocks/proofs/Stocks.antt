@@ -95,7 +95,7 @@ named_by n file below first (x ∷ xs) all i = grind (arith, nat_tests, named_by
 head_below : (s : Store) (t : Tagged) (ts : List Tagged) → late s (t ∷ ts) ≡ 0 → is_below s t ≡ true
 head_below s t ts h = grind (arith, nat_tests)
 
-owned_names : (s : Store) (n : Named) (ts : List Tagged) → late s ts ≡ 0 → IsIn n (names_in s ts) → 0 < backing s.leaves n.block
+pub owned_names : (s : Store) (n : Named) (ts : List Tagged) → late s ts ≡ 0 → IsIn n (names_in s ts) → 0 < backing s.leaves n.block
 owned_names s n [] h i = absurd i
 owned_names s n (t ∷ ts) h i = grind (arith, nat_tests, in_either n (names_of s t.file t.layout) (names_in s ts) i, slots_backed s t.layout.leaves n.block, named_by n t.file t.below 0 (slots_of s t.layout), owned_names s n ts)
 
@@ -126,7 +126,7 @@ tally-layouts : (f : Layout → ℕ) (ts : List Tagged) → tally f (layouts_of 
 tally-layouts f [] = refl
 tally-layouts f (t ∷ ts) = omega (arith, tally-layouts f ts)
 
-in_same : (s : Store) (ts us : List Tagged) → SameStock ts us → IsStocked s ts → IsStocked s us
+pub in_same : (s : Store) (ts us : List Tagged) → SameStock ts us → IsStocked s ts → IsStocked s us
 in_same s ts us same h =
     let by : (f : Layout → ℕ) → tally f (layouts_of ts) ≡ tally f (layouts_of us) = λ f. tally-layouts f ts ∙ (same_tally ts us same (λ t. f t.layout) ∙ sym (tally-layouts f us)) in
     grind (arith, h.owed, h.written, λ (leaf : ℕ). by (λ m. times leaf m.leaves), by (λ m. cond (is_whole s m) 0 1), same_tally ts us same (λ t. cond (is_below s t) 0 1), fewer (names_in s us) (names_in s ts) (same_in s ts us same) h.one_to_one)

@@ -11,7 +11,11 @@ pub mod Owes
 pub mod Renews
 pub mod Renewed
 pub mod Changes
+pub mod Made
+pub mod Making
+pub mod Placed
 pub mod Pieces
 pub mod LaidOver
 pub mod Distinct
 pub mod Stock
+pub mod PlaceLaws

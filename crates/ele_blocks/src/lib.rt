@@ -8,10 +8,12 @@ mod laid;
 pub mod laws;
 mod leaf;
 mod map;
+mod new_slot;
 mod patch;
 mod shared;
 mod slot;
 mod store;
 
 pub use map::BlockMap;
+pub use new_slot::{NewSlot, SlotBytes};
 pub use store::{BlockId, BlockStore};

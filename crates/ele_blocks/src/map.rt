@@ -10,6 +10,7 @@ ghost use Rattle.ele_blocks.specs.Shared.{owners};
 ghost use Rattle.ele_blocks.specs.Store.{bytes_at, owners_at, leaf_at};
 
 mod change;
+mod making;
 
 use crate::leaf::LEAF;
 use crate::slot::{SLOT, Slot};

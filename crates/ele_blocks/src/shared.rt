@@ -143,7 +143,9 @@ impl<T: Drop> Shared<T> {
     pub fn share(&mut self, id: usize)
         requires there { 0 < owners self.old.slots id }
         requires few { owners self.old.slots id < 2 ^ 63 }
-        ensures { Sets self.old.slots self.new.slots id (shared (place_at self.old.slots id)) }
+        ensures sets { Sets self.old.slots self.new.slots id (shared (place_at self.old.slots id)) }
+        ensures room { (more : _) → HasRoomFor self.old more → HasRoomFor self.new more }
+        ensures capacity { self.new.capacity ≡ self.old.capacity }
     {
         self.owners[id] += 1;
     }

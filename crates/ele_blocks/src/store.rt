@@ -9,6 +9,7 @@ ghost use Rattle.ele_blocks.specs.Layout.{Layout};
 ghost use Rattle.ele_blocks.specs.Store.{no_blocks, owners_at, block_at, bytes_at};
 
 pub(crate) mod leaves;
+mod making;
 mod shares;
 
 use crate::block::Block;

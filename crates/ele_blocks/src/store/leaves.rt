@@ -20,7 +20,7 @@ use ele_moment::{NoMemory, VersionNo};
 use std::alloc::Global;
 
 /// The versions whose numbers fit into a slot are before this one.
-const NO_WRITER: u64 = 1 << 32;
+pub(crate) const NO_WRITER: u64 = 1 << 32;
 
 /// New slots for a run of leaves: their bytes, from this place on.
 #[derive(Drop)]
@@ -31,8 +31,8 @@ pub(crate) struct Stage {
     pub staged: Vec<Block>,
 }
 
-// Takes memory for the leaves of so many slots. A leaf of one slot needs none.
-fn rooms_for(alloc: Global, slots: usize) -> Result<Vec<LeafRoom>, NoMemory>
+/// Takes memory for the leaves of so many slots. A leaf of one slot needs none.
+pub(crate) fn rooms_for(alloc: Global, slots: usize) -> Result<Vec<LeafRoom>, NoMemory>
     requires { slots < 2 ^ 62 }
     ensures { IfOk result (λ rooms. slots ≢ 1 → vec_len rooms ≡ leaf_count slots) }
 {
@@ -83,8 +83,13 @@ fn put_leaf(leaves: &mut Shared<Leaf>, ids: &mut Vec<u32>, slot: Slot)
     ids.push_reserved(leaves.put_reserved(Leaf::one(slot)) as u32);
 }
 
-// Adds the slots as new leaves in reserved memory, and their numbers to the list.
-fn put_leaves(leaves: &mut Shared<Leaf>, ids: &mut Vec<u32>, slots: &[Slot], rooms: Vec<LeafRoom>)
+/// Adds the slots as new leaves in reserved memory, and their numbers to the list.
+pub(crate) fn put_leaves(
+    leaves: &mut Shared<Leaf>,
+    ids: &mut Vec<u32>,
+    slots: &[Slot],
+    rooms: Vec<LeafRoom>,
+)
     requires rooms { length slots.now ≢ 1 → vec_len rooms ≡ leaf_count (length slots.now) }
     requires room { HasRoomFor leaves.old (leaf_count (length slots.now)) }
     requires room_ids { leaf_count (length slots.now) ≤ vec_capacity ids.old }

@@ -12,7 +12,7 @@ use crate::slot::Slot;
 use crate::store::{BlockId, BlockStore};
 
 /// A block with so many owners gets no more.
-const CROWD: u64 = 1 << 62;
+pub const CROWD: u64 = 1 << 62;
 
 // Adds an owner to a block.
 fn share_one(blocks: &mut Shared<Block>, id: BlockId)
