@@ -11,6 +11,7 @@ pub mod Distincts
 pub mod OneToOnes
 pub mod Renewals
 pub mod Placings
+pub mod Founds
 pub mod Stocks
 pub mod PlacedStocks
 pub mod Changes

@@ -1,11 +1,61 @@
 -- The laws of maps that are made slot by slot.
-use Rattle.ele_blocks.proofs.Lemmas.{[], AllByRecursion, arith, IsIn, IsStocked, Layout, List, Named, names_in, owners_at, SameStock, slots_of, Stays, Store, sym, Tagged, ℕ, ◌<◌, ◌∷◌}
+use Rattle.ele_blocks.proofs.Lemmas.{[], AllByRecursion, ap, arith, Cell, cell_of, inl, inr, IsIn, IsStocked, Layout, List, map, Named, names_in, names_of, owners_at, refl, SameStock, slice_get, Slot, slots_of, Stays, Store, suc, sym, Tagged, zero, ℕ, ⊎_elim, ◌+◌, ◌<◌, ◌∙◌, ◌∷◌, ◌≡◌}
+use Rattle.ele_blocks.proofs.OneToOnes.{in_either, name_of, slot_from}
+use Rattle.ele_blocks.proofs.Words.{None, Option, Some}
 use Rattle.ele_blocks.proofs.Placings.{have_placed, made_one_to_one, slots_below}
 use Rattle.ele_blocks.proofs.Stocks.{in_same, moves_owes, owned_names, rest_stays}
-use Rattle.ele_blocks.specs.Made.{IsMade}
-use Rattle.ele_blocks.specs.Placed.{ArePlaced}
+use Rattle.ele_blocks.specs.Made.{IsMade, cell_for}
+use Rattle.ele_blocks.specs.Placed.{ArePlaced, Finds, HasBytesOf, HaveBytesOf, IsPlaced, IsShownBy, IsShownIn, block_in, slot_with, slots_with}
 use Rattle.ele_blocks.specs.PlaceLaws.{PlaceLaws}
 use Rattle.ele_blocks.specs.declared.new_slot.NewSlot.{NewSlot}
+use Rattle.ele_blocks.specs.declared.placed.PlacedBlocks.{PlacedBlocks}
+
+-- ---- the new slots of cells
+
+placed_with : (p : PlacedBlocks) (file slot : ℕ) (names : List Named) (cell : Cell) (block : Option ℕ) → block_in p slot cell.writer ≡ block → Finds p file names → IsPlaced names (record { file = file; slot = slot; writer = (slot_with block cell).writer }) (slot_with block cell).bytes
+placed_with p file slot names cell (Some block) is h = h.named slot cell.writer block is
+placed_with p file slot names cell None is h = h.none slot cell.writer is
+
+founds : (p : PlacedBlocks) (file first : ℕ) (names : List Named) (cells : List Cell) → Finds p file names → ArePlaced file first names (slots_with p first cells)
+founds p file first names [] h = tt
+founds p file first names (cell ∷ cells) h = (placed_with p file first names cell (block_in p first cell.writer) refl h, founds p file (first + 1) names cells h)
+
+writer_with : (block : Option ℕ) (cell : Cell) → (slot_with block cell).writer ≡ cell.writer
+writer_with None cell = refl
+writer_with (Some block) cell = refl
+
+writers_with : (p : PlacedBlocks) (below first : ℕ) (cells : List Cell) → AllByRecursion (λ (cell : Cell). cell.writer < below) cells → AllByRecursion (λ (new : NewSlot). new.writer < below) (slots_with p first cells)
+writers_with p below first [] h = tt
+writers_with p below first (cell ∷ cells) h = (omega (arith, writer_with (block_in p first cell.writer) cell, h.0), writers_with p below (first + 1) cells h.1)
+
+cell_with : (s : Store) (block : Option ℕ) (cell : Cell) → HasBytesOf s block cell → cell_for s (slot_with block cell) ≡ cell
+cell_with s None cell h = refl
+cell_with s (Some block) cell h = rw h refl
+
+cells_with : (s : Store) (p : PlacedBlocks) (first : ℕ) (cells : List Cell) → HaveBytesOf s p first cells → map (cell_for s) (slots_with p first cells) ≡ cells
+cells_with s p first [] h = refl
+cells_with s p first (cell ∷ cells) h = rw (cell_with s (block_in p first cell.writer) cell h.0, cells_with s p (first + 1) cells h.1) refl
+
+-- ---- a name is shown by a map
+
+slice_get_mapped : (s : Store) (slots : List Slot) (k : ℕ) (x : Slot) → slice_get slots k ≡ Some x → slice_get (map (cell_of s) slots) k ≡ Some (cell_of s x)
+slice_get_mapped s [] k x e = absurd cc
+slice_get_mapped s (y ∷ ys) zero x e = let same : y ≡ x = cc in rw same refl
+slice_get_mapped s (y ∷ ys) (suc k) x e = slice_get_mapped s ys k x e
+
+shown_by : (s : Store) (t : Tagged) (n : Named) → IsIn n (names_of s t.file t.layout) → IsShownBy s n t
+shown_by s t n i =
+    let h = slot_from n t.file 0 (slots_of s t.layout) i in
+    let here : 0 + h.place ≡ h.place = omega arith in
+    let is : n ≡ name_of t.file h.place h.cell = h.is ∙ ap (λ k. name_of t.file k h.cell) here in
+    let got : slice_get (map (cell_of s) (slots_of s t.layout)) h.place ≡ Some (cell_of s h.cell) = slice_get_mapped s (slots_of s t.layout) h.place h.cell h.got in
+    rw is (record { file = refl; cell = got })
+
+shown_in : (s : Store) (ts : List Tagged) (n : Named) → IsIn n (names_in s ts) → IsShownIn s n ts
+shown_in s [] n i = i
+shown_in s (t ∷ ts) n i = ⊎_elim (λ (a : IsIn n (names_of s t.file t.layout)). inl (shown_by s t n a)) (λ (b : IsIn n (names_in s ts)). inr (shown_in s ts n b)) (in_either n (names_of s t.file t.layout) (names_in s ts) i)
+
+-- ---- a map of them is added
 
 -- every name has a block that is there
 names_owned : (s : Store) (ts : List Tagged) → IsStocked s ts → (n : Named) → IsIn n (names_in s ts) → 0 < owners_at s n.block
@@ -21,6 +71,10 @@ makes s t ts file below count news now us h made placed early same =
 
 pub place_laws : PlaceLaws
 place_laws = record {
+  found = founds;
+  writers = writers_with;
+  cells = cells_with;
+  shown = shown_in;
   there = λ s ts file first news h placed. have_placed s (names_in s ts) (names_owned s ts h) file first news placed;
   made = makes;
 }

@@ -13,9 +13,9 @@ pub mod Renewed
 pub mod Changes
 pub mod Made
 pub mod Making
-pub mod Placed
 pub mod Pieces
 pub mod LaidOver
 pub mod Distinct
 pub mod Stock
+pub mod Placed
 pub mod PlaceLaws

@@ -10,10 +10,12 @@ mod leaf;
 mod map;
 mod new_slot;
 mod patch;
+mod placed;
 mod shared;
 mod slot;
 mod store;
 
 pub use map::BlockMap;
 pub use new_slot::{NewSlot, SlotBytes};
+pub use placed::PlacedBlocks;
 pub use store::{BlockId, BlockStore};
