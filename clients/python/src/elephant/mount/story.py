@@ -6,7 +6,7 @@ import json
 from collections.abc import Iterator, Mapping, Sequence
 from typing import Any, NamedTuple, Optional, Union
 
-from .. import LAST_MOMENT, Cause, Current, Due, Fate, Kept, KeepSafe, Landmarks, Marked, Policy, Removal, Removed, Version
+from .. import LAST_MOMENT, Cause, Current, Due, Fate, KeepSafe, Kept, Landmarks, Marked, Policy, Removal, Removed, Version
 from ..keeping import span
 from .audit import Audit
 from .log import local
