@@ -4,3 +4,4 @@ pub mod Found
 pub mod Counts
 pub mod Orders
 pub mod Keepings
+pub mod Restored

@@ -6,7 +6,7 @@ ghost use Rattle.std.specs.Result.{result_map_both};
 ghost use Rattle.ele_sessions.specs.Faults.{refusal_of};
 ghost use Rattle.ele_sessions.specs.Found.{StandsAt};
 ghost use Rattle.ele_sessions.specs.Inside.{IsAt, IsGap, file_in, number_in};
-ghost use Rattle.ele_sessions.specs.Kept.{reads_eq};
+ghost use Rattle.ele_sessions.specs.Kept.{reading, reads_eq};
 ghost use Rattle.ele_sessions.specs.Order.{Rises};
 ghost use Rattle.ele_lists.specs.Lists.{remove_first};
 ghost use Rattle.ele_model.specs.World.{is_handle, reads_by, file_written, file_by};
@@ -17,8 +17,9 @@ use crate::fault::SessionFault;
 use crate::found_handle::FoundHandle;
 use ele_lists::Keyed;
 use ele_model::{HandleRow, Reads, Refusal};
-use ele_moment::{FileId, Handle};
+use ele_moment::{FileId, Handle, NoMemory};
 use ele_rows::Tally;
+use std::alloc::Global;
 
 /// A file's draft, boxed, so that few bytes move when another draft is added or removed.
 #[derive(Drop)]
@@ -64,6 +65,19 @@ pub fn enter(handles: &mut Vec<HandleRow>, counts: &mut Tally<Reads>, handle: &H
 {
     handles.push_reserved(*handle);
     counts.add(handle.reads);
+}
+
+/// Counts what the handles read.
+pub fn tally_of(alloc: Global, handles: &[HandleRow]) -> Result<Tally<Reads>, NoMemory>
+    ensures { IfOk result (λ counts. (what : Reads)
+        → counted reads_eq counts what ≡ reading what handles.now) }
+{
+    let mut counts = Tally::new(alloc);
+    for handle in handles {
+        counts.reserve()?;
+        counts.add(handle.reads);
+    }
+    Ok(counts)
 }
 
 /// Removes the handle that was found, and returns what it read.

@@ -6,6 +6,7 @@
 mod changing;
 mod closing;
 mod draft;
+mod drafts;
 mod entries;
 mod fault;
 mod found_handle;
@@ -14,6 +15,7 @@ mod opening;
 mod sessions;
 
 pub use closing::Closing;
+pub use drafts::Drafts;
 pub use ele_model::Reads;
 pub use fault::SessionFault;
 pub use found_handle::FoundHandle;

@@ -1,6 +1,7 @@
 //! The drafts and handles of all files.
 //! A contract sees them as drafts, handles and the count of handles ever opened.
-ghost use Rattle.std.specs.Prelude.{◌≡◌, ◌<◌, ◌+◌, ◌^◌, [], Some, OnOk, OnErr, IfOk};
+ghost use Rattle.std.specs.Prelude.{◌≡◌, ◌≤◌, ◌<◌, ◌+◌, ◌^◌, [], Some, OnOk, OnErr, IfOk};
+ghost use Rattle.std.specs.List.{AllByRecursion};
 ghost use Rattle.ele_blocks.specs.LivesIn.{LivesIn};
 ghost use Rattle.ele_blocks.specs.Owes.{IsUncrowded};
 ghost use Rattle.ele_sessions.specs.Orderly.{AreOrderly};
@@ -12,7 +13,8 @@ mod asking;
 mod writing;
 
 use crate::closing::Closing;
-use crate::entries::{Entry, enter, handle_by, take_found};
+use crate::drafts::Drafts;
+use crate::entries::{Entry, enter, handle_by, take_found, tally_of};
 use crate::found_handle::FoundHandle;
 use crate::leaving::leave;
 use crate::opening::{DraftSpec, join};
@@ -58,6 +60,31 @@ impl Sessions {
             opened: 0,
             alloc,
         }
+    }
+
+    /// Makes the sessions with these drafts and handles, after so many handles were opened.
+    ///
+    /// `NoMemory` if memory is refused; the blocks of the drafts' maps stay in the store.
+    /// Cost: the handles.
+    pub fn from_parts(
+        alloc: Global,
+        drafts: Drafts,
+        handles: &[HandleRow],
+        opened: u64,
+    ) -> Result<Sessions, NoMemory>
+        requires orderly { AreOrderly
+            (record { drafts = drafts; handles = handles.now; opened = opened }) }
+        requires numbered { AllByRecursion (λ handle. 1 ≤ handle.number) handles.now }
+        ensures { IfOk result (λ sessions. sessions
+            ≡ record { drafts = drafts; handles = handles.now; opened = opened }) }
+    {
+        Ok(Sessions {
+            drafts: drafts.into_entries(),
+            handles: Vec::from_slice(alloc, handles)?,
+            counts: tally_of(alloc, handles)?,
+            opened,
+            alloc,
+        })
     }
 
     /// Opens a handle that writes the file. It joins the file's draft, or starts one with a copy of
