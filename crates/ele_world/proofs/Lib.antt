@@ -31,6 +31,7 @@ pub mod DifferentPlaces
 pub mod SlotsKept
 pub mod CellsStay
 pub mod OneContent
+pub mod WholeStays
 pub mod Saves
 pub mod Sessions
 pub mod Governs
