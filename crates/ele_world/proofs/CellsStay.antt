@@ -21,10 +21,10 @@ edits _ = false
 
 -- ---- what all have that can be read, all rows have
 
-abbrev pub IsFoundDraft : List DraftRow → DraftRow → Type 0
+abbrev IsFoundDraft : List DraftRow → DraftRow → Type 0
 IsFoundDraft rows row = find (is_draft row.file) rows ≡ Some row
 
-pub drafts_found : (rows : List DraftRow) → AllLater (λ earlier later. earlier.file < later.file) rows → AllByRecursion (IsFoundDraft rows) rows
+drafts_found : (rows : List DraftRow) → AllLater (λ earlier later. earlier.file < later.file) rows → AllByRecursion (IsFoundDraft rows) rows
 drafts_found [] placed = tt
 drafts_found (x ∷ xs) placed = grind (arith, nat_tests, all-weaker (λ y. (x.file < y.file) × IsFoundDraft xs y) (IsFoundDraft (x ∷ xs)) xs, all-both (λ (y : DraftRow). x.file < y.file) (IsFoundDraft xs) xs, drafts_found xs)
 
@@ -47,7 +47,7 @@ module _ (P : ℕ → List Cell → Type 0) (none : (file : ℕ) → P file []) 
     all-weaker (IsFoundDraft w.drafts) OfDraft w.drafts (λ row found. let it = all (Draft row.file) in grind (arith, found, it)) (drafts_found w.drafts (k.holds Drafts).placed),
   )
 
-  pub read_by : (w : World) → AllRows w → AllRead w
+  read_by : (w : World) → AllRows w → AllRead w
   read_by w all (Draft file) = grind (arith, nat_tests, none, all, all-found, found_passes)
   read_by w all (Version file number) = grind (arith, nat_tests, none, all, all-found, found_passes)
 

@@ -31,7 +31,6 @@ pub mod DifferentPlaces
 pub mod SlotsKept
 pub mod CellsStay
 pub mod OneContent
-pub mod WholeStays
 pub mod Saves
 pub mod Sessions
 pub mod Governs

@@ -23,7 +23,6 @@ pub mod OtherNamesStay
 pub mod UndeleteTakes
 pub mod CountsPlaces
 pub mod OneContent
-pub mod WholeStays
 pub mod PolicyGoverns
 pub mod DefaultGoverns
 pub mod MarkMarks

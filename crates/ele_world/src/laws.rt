@@ -27,7 +27,6 @@ pub mod groups;
 pub mod lists;
 pub mod past;
 pub mod tree;
-pub mod whole;
 
 pub use ele_headline::{
     headline, headline_in_fresh_runs, held_stays, only_due_leave, pass_leaves_kept,
