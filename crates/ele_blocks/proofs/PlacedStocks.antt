@@ -1,9 +1,9 @@
 -- The laws of maps that are made slot by slot.
-use Rattle.ele_blocks.proofs.Lemmas.{[], AllByRecursion, ap, arith, Cell, cell_of, inl, inr, IsIn, IsStocked, Layout, List, map, Named, names_in, names_of, owners_at, refl, SameStock, slice_get, Slot, slots_of, Stays, Store, suc, sym, Tagged, zero, ℕ, ⊎_elim, ◌+◌, ◌<◌, ◌∙◌, ◌∷◌, ◌≡◌}
+use Rattle.ele_blocks.proofs.Lemmas.{[], AllByRecursion, ap, arith, Cell, cell_of, inl, inr, IsIn, IsStocked, Layout, List, map, Named, names_in, names_of, nat_tests, owners_at, refl, SameStock, slice_get, Slot, slots_of, Stays, Store, suc, sym, Tagged, zero, ℕ, ⊎_elim, ◌+◌, ◌<◌, ◌∙◌, ◌∷◌, ◌≡◌}
 use Rattle.ele_blocks.proofs.OneToOnes.{in_either, name_of, slot_from}
-use Rattle.ele_blocks.proofs.Words.{None, Option, Some}
+use Rattle.ele_blocks.proofs.Words.{None, Option, Some, ◌≢◌}
 use Rattle.ele_blocks.proofs.Placings.{have_placed, made_one_to_one, slots_below}
-use Rattle.ele_blocks.proofs.Stocks.{in_same, moves_owes, owned_names, rest_stays}
+use Rattle.ele_blocks.proofs.Stocks.{in_same, moves_owes, owned_names, rest_stays, same_in}
 use Rattle.ele_blocks.specs.Made.{IsMade, cell_for}
 use Rattle.ele_blocks.specs.Placed.{ArePlaced, Finds, HasBytesOf, HaveBytesOf, IsPlaced, IsShownBy, IsShownIn, block_in, slot_with, slots_with}
 use Rattle.ele_blocks.specs.PlaceLaws.{PlaceLaws}
@@ -69,12 +69,39 @@ makes s t ts file below count news now us h made placed early same =
     let all : IsStocked t (new ∷ ts) = grind (arith, moves_owes s t [] (now ∷ []) made.moves ts h.owed, stay, one, slots_below s below news (slots_of t now) made.slots early, h.written) in
     record { stocked = in_same t (new ∷ ts) us (record { sums = λ f. sym (same.sums f) }) all; shows = stay.shows }
 
+keep_names : (s t : Store) (ts : List Tagged) (count : ℕ) (news : List NewSlot) (now : Layout) → IsStocked s ts → IsMade s t count news now → names_in t ts ≡ names_in s ts
+keep_names s t ts count news now h made = (rest_stays s t [] (now ∷ []) made.moves ts h.owed).names
+
+-- ---- among other maps
+
+finds_ordered : (s : Store) (ts us : List Tagged) (p : PlacedBlocks) (file : ℕ) → SameStock ts us → Finds p file (names_in s ts) → Finds p file (names_in s us)
+finds_ordered s ts us p file same h = record {
+  named = λ slot writer block e. same_in s us ts (record { sums = λ f. sym (same.sums f) }) _ (h.named slot writer block e);
+  none = λ slot writer e n i. h.none slot writer e n (same_in s ts us same n i);
+}
+
+other_file : (s : Store) (ts : List Tagged) (file : ℕ) → AllByRecursion (λ (t : Tagged). t.file ≢ file) ts → (n : Named) → IsIn n (names_in s ts) → n.place.file ≢ file
+other_file s [] file apart n i = absurd i
+other_file s (t ∷ ts) file apart n i =
+    ⊎_elim (λ (a : IsIn n (names_of s t.file t.layout)). λ (e : n.place.file ≡ file). apart.0 ((shown_by s t n a).file ∙ e))
+    (λ (b : IsIn n (names_in s ts)). other_file s ts file apart.1 n b)
+    (in_either n (names_of s t.file t.layout) (names_in s ts) i)
+
+finds_others : (s : Store) (ts : List Tagged) (p : PlacedBlocks) (file : ℕ) → AllByRecursion (λ (t : Tagged). t.file ≢ file) ts → Finds p file [] → Finds p file (names_in s ts)
+finds_others s ts p file apart h = record {
+  named = λ slot writer block e. absurd (h.named slot writer block e);
+  none = λ slot writer e n i. let other = other_file s ts file apart n i in grind (arith, nat_tests, other);
+}
+
 pub place_laws : PlaceLaws
 place_laws = record {
   found = founds;
   writers = writers_with;
   cells = cells_with;
+  ordered = finds_ordered;
+  others = finds_others;
   shown = shown_in;
   there = λ s ts file first news h placed. have_placed s (names_in s ts) (names_owned s ts h) file first news placed;
+  names = keep_names;
   made = makes;
 }

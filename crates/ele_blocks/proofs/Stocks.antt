@@ -74,7 +74,7 @@ names_count : (s : Store) (n : Named) (ts : List Tagged) → count n (names_in s
 names_count s n [] = refl
 names_count s n (t ∷ ts) = omega (arith, tally-append (λ m. cond (is_named n m) 1 0) (names_of s t.file t.layout) (names_in s ts), names_count s n ts)
 
-same_in : (s : Store) (ts us : List Tagged) → SameStock ts us → (n : Named) → IsIn n (names_in s us) → IsIn n (names_in s ts)
+pub same_in : (s : Store) (ts us : List Tagged) → SameStock ts us → (n : Named) → IsIn n (names_in s us) → IsIn n (names_in s ts)
 same_in s ts us same n i = in_counted n (names_in s ts) (omega (arith, counted n (names_in s us) i, names_count s n ts, names_count s n us, same_tally ts us same (λ t. count n (names_of s t.file t.layout))))
 
 fewer : (ns ms : List Named) → ((n : Named) → IsIn n ns → IsIn n ms) → AreOneToOne ms → AreOneToOne ns
