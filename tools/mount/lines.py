@@ -10,6 +10,7 @@ import random
 import re
 import subprocess
 import sys
+from collections.abc import Mapping
 from pathlib import Path
 
 from mount.mounts import SOURCE, Counts, Mounted
@@ -149,17 +150,24 @@ def audits(room: str, asked: argparse.Namespace) -> Counts:
     return seen.counts()
 
 
+def _made(chance: random.Random, takes: Mapping[str, str]) -> str:
+    """Returns a line: mostly with as many words as its command takes."""
+    first = chance.choice(FIRST)
+    count = len(takes[first].split()) if first in takes and chance.random() < 0.8 else chance.randrange(MOST_WORDS)
+    return " ".join([first, *chance.choices(OTHERS, k=count)])
+
+
 def reasons(room: str, asked: argparse.Namespace) -> Counts:
     """The mount says why a line is bad as the program does with `--explain`."""
     sys.path.insert(0, str(SOURCE))
-    from elephant.mount.reasons import NO_SUCH, reason
+    from elephant.mount.reasons import NO_SUCH, TAKES, reason
 
     if not Path(asked.program).is_file():
         print(f"mount: reasons: there is no {asked.program}: './elephant prove' builds it")
         return 1, 1
     seen, chance = Faults("reasons"), random.Random(asked.seed)
     count = 20_000 if asked.long else 4_000
-    made = [" ".join([chance.choice(FIRST), *chance.choices(OTHERS, k=chance.randrange(MOST_WORDS))]) for _ in range(count)]
+    made = [_made(chance, TAKES) for _ in range(count)]
     words = [asked.program, "run", "--numbers", "--explain"]
     ran = subprocess.run(words, input="\n".join(made) + "\n", capture_output=True, text=True, check=False)
     told = {int(number): why for number, why in re.findall(r"(?m)^elephant: line (\d+), (.*)$", ran.stderr)}
