@@ -1,0 +1,77 @@
+-- The parts that options spell, one after another: a word spells one part at most.
+use Rattle.std.proofs.Common.{◌≡◌, ℕ, zero, suc, ◌+◌, ◌<◌, ◌≤◌, ◌==◌, Bool, true, false, List, [], ◌∷◌, ◌++◌, length, take, get_or, Result, Ok, Err, refl, sym, ap, subst, ◌∙◌, arith}
+use Rattle.std.proofs.lemmas.Bool.Decides.{nat_tests}
+use Rattle.std.specs.List.{AllZip}
+use Rattle.ele_peer_rules.specs.declared.part.Part.{Part}
+use Rattle.ele_peer_rules.specs.declared.part.Tool.{Tool}
+use Rattle.ele_peer_rules.specs.declared.reading.Wrong.{Wrong}
+use Rattle.ele_peer_rules.specs.Kept.{rank_of}
+use Rattle.ele_peer_rules.specs.Words.{AreApart, SpellsPart, has_rank}
+
+-- the word spells the part, and no other
+pub record IsOnly (tool : Tool) (word : List ℕ) (part : Part) : Type 0 where
+  pub is : SpellsPart tool word part
+  pub only : (other : Part) → SpellsPart tool word other → part ≡ other
+
+pub only_push : (tool : Tool) (words : List (List ℕ)) (parts : List Part) (word : List ℕ) (part : Part) → AllZip (IsOnly tool) words parts → IsOnly tool word part → AllZip (IsOnly tool) (words ++ word ∷ []) (parts ++ part ∷ [])
+only_push tool [] [] word part far is = (is, tt)
+only_push tool [] (x ∷ parts) word part far is = absurd far
+only_push tool (w ∷ words) [] word part far is = absurd far
+only_push tool (w ∷ words) (x ∷ parts) word part far is = (far.0, only_push tool words parts word part far.1 is)
+
+pub all_spelled : (tool : Tool) (words : List (List ℕ)) (parts : List Part) → AllZip (IsOnly tool) words parts → AllZip (SpellsPart tool) words parts
+all_spelled tool [] [] far = far
+all_spelled tool [] (x ∷ parts) far = absurd far
+all_spelled tool (w ∷ words) [] far = absurd far
+all_spelled tool (w ∷ words) (x ∷ parts) far = (far.0.is, all_spelled tool words parts far.1)
+
+pub same_count : (tool : Tool) (words : List (List ℕ)) (parts : List Part) → AllZip (SpellsPart tool) words parts → length words ≡ length parts
+same_count tool [] [] far = refl
+same_count tool [] (x ∷ parts) far = absurd far
+same_count tool (w ∷ words) [] far = absurd far
+same_count tool (w ∷ words) (x ∷ parts) far = ap (λ (n : ℕ). suc n) (same_count tool words parts far.1)
+
+-- if words spell parts, so does each
+pub each_part : (tool : Tool) (words : List (List ℕ)) (parts : List Part) (i : ℕ) (word : List ℕ) (wrong : Wrong) → AllZip (SpellsPart tool) words parts → i < length words → word ≡ get_or words i word
+    → ((part : Part) → SpellsPart tool word part → ◌≡◌ {A = Result Part Wrong} (Err wrong) (Ok part)) → ⊥
+each_part tool [] parts i word wrong all lt here bad = absurd (omega (arith, lt))
+each_part tool (w ∷ words) [] i word wrong all lt here bad = all
+each_part tool (w ∷ words) (p ∷ ps) zero word wrong all lt here bad =
+    let no = bad p (subst (λ (x : List ℕ). SpellsPart tool x p) (sym here) all.0) in absurd cc
+each_part tool (w ∷ words) (p ∷ ps) (suc i) word wrong all lt here bad = each_part tool words ps i word wrong all.1 (omega (arith, lt)) here bad
+
+-- the parts of the words so far, and of the next one
+pub next_same : (tool : Tool) (words : List (List ℕ)) (n : ℕ) (kept parts : List Part) (word : List ℕ) (part : Part) → AllZip (SpellsPart tool) words parts → AllZip (IsOnly tool) (take n words) kept → n < length words → word ≡ get_or words n word → IsOnly tool word part
+    → (more : List Part) × (parts ≡ kept ++ part ∷ more)
+next_same tool [] n kept parts word part all far lt here only = absurd (omega (arith, lt))
+next_same tool (w ∷ words) n kept [] word part all far lt here only = absurd all
+next_same tool (w ∷ words) zero [] (p ∷ ps) word part all far lt here only =
+    (ps, ap (λ (x : Part). x ∷ ps) (sym (only.only p (subst (λ (x : List ℕ). SpellsPart tool x p) (sym here) all.0))))
+next_same tool (w ∷ words) zero (k ∷ kept) (p ∷ ps) word part all far lt here only = absurd far
+next_same tool (w ∷ words) (suc n) [] (p ∷ ps) word part all far lt here only = absurd far
+next_same tool (w ∷ words) (suc n) (k ∷ kept) (p ∷ ps) word part all far lt here only =
+    let rest = next_same tool words n kept ps word part all.1 far.1 (omega (arith, lt)) here only in
+    (rest.0, ap (λ (xs : List Part). p ∷ xs) rest.1 ∙ ap (λ (x : Part). x ∷ kept ++ part ∷ rest.0) (sym (far.0.only p all.0)))
+
+no_more : (before : List Part) → before ++ [] ≡ before
+no_more [] = refl
+no_more (x ∷ before) = ap (λ (xs : List Part). x ∷ xs) (no_more before)
+
+one_more : (before kept : List Part) (k : Part) → (before ++ k ∷ []) ++ kept ≡ before ++ k ∷ kept
+one_more [] kept k = refl
+one_more (x ∷ before) kept k = ap (λ (xs : List Part). x ∷ xs) (one_more before kept k)
+
+-- a part of another rank than those before it
+pub apart_next : (before kept : List Part) (part : Part) (more : List Part) → AreApart before (kept ++ part ∷ more) → has_rank (rank_of part) (before ++ kept) ≡ false
+apart_next before [] part more apart = ap (has_rank (rank_of part)) (no_more before) ∙ apart.0
+apart_next before (k ∷ kept) part more apart = ap (has_rank (rank_of part)) (sym (one_more before kept k)) ∙ apart_next (before ++ k ∷ []) kept part more apart.1
+
+pub apart_push : (before kept : List Part) (part : Part) → AreApart before kept → has_rank (rank_of part) (before ++ kept) ≡ false → AreApart before (kept ++ part ∷ [])
+apart_push before [] part apart new = (ap (has_rank (rank_of part)) (sym (no_more before)) ∙ new, tt)
+apart_push before (k ∷ kept) part apart new = (apart.0, apart_push (before ++ k ∷ []) kept part apart.1 (ap (has_rank (rank_of part)) (one_more before kept k) ∙ new))
+
+pub same_ok : (a b : Part) → ◌≡◌ {A = Result Part Wrong} (Ok a) (Ok b) → a ≡ b
+same_ok a b e = cc
+
+pub room : (n : ℕ) (full : Bool) → full ≡ (n == 16) → full ≡ false → n ≤ 16 → n < 16
+room n full is other le = grind (arith, nat_tests)

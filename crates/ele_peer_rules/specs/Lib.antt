@@ -1,0 +1,6 @@
+pub mod Shown
+pub mod Within
+pub mod Spans
+pub mod Marks
+pub mod Kept
+pub mod Words

@@ -1,0 +1,21 @@
+-- Which rows are the newest of their span.
+use Rattle.std.specs.Prelude.{ℕ, ◌+◌, ◌/◌, ◌==◌, Bool, true, false, not, List, [], ◌∷◌}
+use Rattle.ele_peer_rules.specs.declared.row.Row.{Row}
+use Rattle.ele_peer_rules.specs.declared.span.Span.{Span}
+use Rattle.ele_peer_rules.specs.declared.span.Span.TheVariants.{Each, Second, Minute, Hour, Day, Week, Month, Year}
+
+-- two rows lie in one span by the clock of each; a week begins on Monday, and 1970-01-01 was a Thursday
+abbrev pub same_span : Span → Row → Row → Bool
+same_span Each a b = false
+same_span Second a b = a.local == b.local
+same_span Minute a b = a.local / 60 == b.local / 60
+same_span Hour a b = a.local / 3600 == b.local / 3600
+same_span Day a b = a.local / 86400 == b.local / 86400
+same_span Week a b = (a.local / 86400 + 3) / 7 == (b.local / 86400 + 3) / 7
+same_span Month a b = a.month == b.month
+same_span Year a b = a.month / 12 == b.month / 12
+
+-- the next newer row, if there is one, lies in another span
+abbrev pub is_newest : Span → Row → List Row → Bool
+is_newest span row [] = true
+is_newest span row (next ∷ newer) = not (same_span span row next)

@@ -1,0 +1,176 @@
+//! Rules in text. A contract sees a word as its bytes.
+ghost use Rattle.std.specs.Prelude.{◌≡◌, List, Ok, Some, IfOk, IfErr, IfSome, true, false};
+ghost use Rattle.ele_peer_rules.specs.declared.limit.Limit.{Limit};
+ghost use Rattle.ele_peer_rules.specs.declared.part.Part.{Part};
+ghost use Rattle.ele_peer_rules.specs.declared.part.Tool.{Tool};
+ghost use Rattle.ele_peer_rules.specs.Words.{MeansRule, SpellsLimit, SpellsPart, SpellsParts, has_rank, is_all};
+
+use crate::cut::cut_at;
+use crate::length::{read_reach, read_some};
+use crate::limit::Limit;
+use crate::names::{slot_of, tool_of};
+use crate::part::{Part, Tool};
+use crate::rule::{MOST_PARTS, PeerRule};
+use arrayvec::ArrayVec;
+use thiserror::Error;
+
+/// What is wrong with a word that means no rule.
+#[derive(Clone, Copy, Debug, PartialEq, Eq, Error)]
+pub enum Wrong {
+    /// No colon follows a tool's name.
+    #[error("a rule is a tool, a colon and options, as restic:keep-daily=7")]
+    NoTool,
+    /// The tool has no rules here.
+    #[error("a rule's tool is restic, restic-0.15 or borg")]
+    UnknownTool,
+    /// The option has no equals sign.
+    #[error("an option is its name, an equals sign and a value, as keep-daily=7")]
+    NoValue,
+    /// The tool hasn't this option.
+    #[error("the tool has no such option")]
+    UnknownOption,
+    /// The value isn't a number from 1 on, `unlimited` or `-1`.
+    #[error("a number of backups is from 1 on, or unlimited")]
+    BadNumber,
+    /// The value isn't a length of time as the tool writes it.
+    #[error("a length of time is as 1y5m7d2h to restic, and as 30d to borg")]
+    BadLength,
+    /// An option before says the same.
+    #[error("an option before says the same")]
+    Twice,
+}
+
+/// Where a word that means no rule is wrong, and how.
+#[derive(Clone, Copy, Debug, PartialEq, Eq)]
+pub struct RuleFault {
+    /// The number of the option, from 1; 0 for the tool.
+    pub option: u64,
+    pub wrong: Wrong,
+}
+
+/// Returns the rule that a word means, as `restic:keep-last=3,keep-within=1m`: a tool's name, a colon, and options of the
+/// tool with a comma between each two. The tools are `restic`, `restic-0.15`, which is each version up to that one, and
+/// `borg`. `RuleFault` for every other word, with its first fault. It takes no memory.
+pub fn read_rule(word: &[u8]) -> Result<PeerRule, RuleFault>
+    ensures found { IfOk result (λ rule. MeansRule word.now rule.tool rule.parts.items) }
+    ensures none { IfErr result (λ fault. (tool : Tool) (parts : List Part)
+        → MeansRule word.now tool parts → ⊥) }
+{
+    let Some((name, options)) = cut_at(b':', word) else {
+        return Err(fault(0, Wrong::NoTool));
+    };
+    let Some(tool) = tool_of(name) else {
+        return Err(fault(0, Wrong::UnknownTool));
+    };
+    match read_parts(tool, options) {
+        Ok(parts) => Ok(PeerRule { tool, parts }),
+        Err(fault) => Err(fault),
+    }
+}
+
+fn fault(option: u64, wrong: Wrong) -> RuleFault {
+    RuleFault { option, wrong }
+}
+
+// The parts that options spell.
+fn read_parts(tool: Tool, text: &[u8]) -> Result<ArrayVec<Part, MOST_PARTS>, RuleFault>
+    ensures found { IfOk result (λ parts. SpellsParts tool text.now parts.items) }
+    ensures none { IfErr result (λ fault. (parts : List Part) → SpellsParts tool text.now parts → ⊥) }
+{
+    let mut parts = ArrayVec::new();
+    for option in text.split(|byte| *byte == b',') {
+        let number = parts.len() as u64 + 1;
+        let part = match read_part(tool, option) {
+            Ok(part) => part,
+            Err(wrong) => return Err(fault(number, wrong)),
+        };
+        if parts.is_full() {
+            return Err(fault(number, Wrong::Twice));
+        }
+        if has_rank(part.rank(), parts.as_slice()) {
+            return Err(fault(number, Wrong::Twice));
+        }
+        parts.push(part);
+    }
+    Ok(parts)
+}
+
+// Whether one of the parts has the rank.
+fn has_rank(rank: u8, parts: &[Part]) -> bool
+    ensures { result ≡ has_rank rank parts.now }
+{
+    parts.iter().any(|part| part.rank() == rank)
+}
+
+// The part that an option spells.
+fn read_part(tool: Tool, option: &[u8]) -> Result<Part, Wrong>
+    ensures found { IfOk result (SpellsPart tool option.now) }
+    ensures only { (part : Part) → SpellsPart tool option.now part → result ≡ Ok part }
+{
+    let Some((name, value)) = cut_at(b'=', option) else {
+        return Err(Wrong::NoValue);
+    };
+    let Some(slot) = slot_of(tool, name) else {
+        return Err(Wrong::UnknownOption);
+    };
+    let Some(limit) = read_limit(tool, slot.within, value) else {
+        return Err(bad_value(slot.within));
+    };
+    Ok(Part {
+        span: slot.span,
+        limit,
+    })
+}
+
+// What is wrong with a value.
+fn bad_value(within: bool) -> Wrong {
+    if within {
+        Wrong::BadLength
+    } else {
+        Wrong::BadNumber
+    }
+}
+
+// The limit that a value spells.
+fn read_limit(tool: Tool, within: bool, text: &[u8]) -> Option<Limit>
+    ensures found { IfSome result (SpellsLimit tool within text.now) }
+    ensures only { (limit : Limit) → SpellsLimit tool within text.now limit → result ≡ Some limit }
+{
+    if within {
+        return within_limit(tool, text);
+    }
+    if is_all(text) {
+        return Some(Limit::All);
+    }
+    number_limit(tool, text)
+}
+
+// A length of time as a limit.
+fn within_limit(tool: Tool, text: &[u8]) -> Option<Limit>
+    ensures found { IfSome result (SpellsLimit tool true text.now) }
+    ensures only { (limit : Limit) → SpellsLimit tool true text.now limit → result ≡ Some limit }
+{
+    match read_reach(tool, text) {
+        Some(reach) => Some(Limit::Within(reach)),
+        None => None,
+    }
+}
+
+// A number as a limit, which the word for all isn't.
+fn number_limit(tool: Tool, text: &[u8]) -> Option<Limit>
+    requires { is_all text.now ≡ false }
+    ensures found { IfSome result (SpellsLimit tool false text.now) }
+    ensures only { (limit : Limit) → SpellsLimit tool false text.now limit → result ≡ Some limit }
+{
+    match read_some(text) {
+        Some(number) => Some(Limit::Number(number)),
+        None => None,
+    }
+}
+
+// Whether the value means all rows.
+fn is_all(text: &[u8]) -> bool
+    ensures { result ≡ is_all text.now }
+{
+    text == b"unlimited".as_slice() || text == b"-1".as_slice()
+}

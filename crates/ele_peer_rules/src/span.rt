@@ -1,0 +1,49 @@
+//! Spans of time by a clock. A contract sees a span as plain data.
+ghost use Rattle.std.specs.Prelude.{◌≡◌};
+ghost use Rattle.ele_peer_rules.specs.Spans.{is_newest, same_span};
+
+use crate::row::Row;
+
+/// Spans of time, of each of which a part of a rule keeps the newest row. Weeks begin on Monday. `Each` is a span for
+/// each row.
+#[derive(Clone, Copy, Default)]
+pub enum Span {
+    #[default]
+    Each,
+    Second,
+    Minute,
+    Hour,
+    Day,
+    Week,
+    Month,
+    Year,
+}
+
+impl Span {
+    // Whether both rows lie in one span, by the clock of each.
+    fn is_one(self, row: &Row, other: &Row) -> bool
+        ensures { result ≡ same_span self row.now other.now }
+    {
+        let (a, b) = (row.local.seconds(), other.local.seconds());
+        match self {
+            Span::Each => false,
+            Span::Second => a == b,
+            Span::Minute => a / 60 == b / 60,
+            Span::Hour => a / 3_600 == b / 3_600,
+            Span::Day => a / 86_400 == b / 86_400,
+            Span::Week => (a / 86_400 + 3) / 7 == (b / 86_400 + 3) / 7,
+            Span::Month => row.month.number() == other.month.number(),
+            Span::Year => row.month.number() / 12 == other.month.number() / 12,
+        }
+    }
+
+    /// Whether the row is the newest of its span: the next newer one, if there is one, lies in another.
+    pub(crate) fn is_newest(self, row: &Row, newer: &[Row]) -> bool
+        ensures { result ≡ is_newest self row.now newer.now }
+    {
+        match newer {
+            [next, ..] => !self.is_one(row, next),
+            [] => true,
+        }
+    }
+}
