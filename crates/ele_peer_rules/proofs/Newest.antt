@@ -1,5 +1,5 @@
 -- The newest row is the last.
-use Rattle.std.proofs.Common.{◌≡◌, ◌-◌, List, Option, length, slice_get}
+use Rattle.std.proofs.Common.{◌≡◌, ◌-◌, List, length, slice_get}
 use Rattle.ele_lists.specs.Ends.{last_of}
 use Rattle.ele_lists.proofs.Ends.{last-slice_get}
 use Rattle.ele_peer_rules.specs.declared.row.Row.{Row}

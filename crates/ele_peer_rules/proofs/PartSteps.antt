@@ -1,5 +1,5 @@
 -- What a part marks and counts, one row at a time, from the newest on.
-use Rattle.std.proofs.Common.{◌≡◌, ℕ, zero, suc, ◌+◌, ◌-◌, ◌<◌, ◌≤◌, ◌==◌, ◌++◌, Bool, true, false, List, [], ◌∷◌, Option, Some, None, length, take, drop, set, get_or, slice_get, refl, sym, ap, subst, ◌∙◌, arith}
+use Rattle.std.proofs.Common.{◌≡◌, ℕ, zero, suc, ◌+◌, ◌<◌, ◌≤◌, ◌==◌, ◌++◌, Bool, false, List, [], ◌∷◌, Option, Some, length, take, drop, set, get_or, slice_get, refl, ap, subst, arith}
 use Rattle.std.proofs.lemmas.Bool.{ne_eqb}
 use Rattle.ele_peer_rules.specs.declared.limit.Since.{Since}
 use Rattle.ele_peer_rules.specs.declared.part.Part.{Part}
@@ -7,7 +7,7 @@ use Rattle.ele_peer_rules.specs.declared.part.Tool.{Tool}
 use Rattle.ele_peer_rules.specs.declared.reason.Reason.{Reason}
 use Rattle.ele_peer_rules.specs.declared.row.Row.{Row}
 use Rattle.ele_peer_rules.specs.declared.span.Span.{Span}
-use Rattle.ele_peer_rules.specs.Marks.{after_from, count, counts, is_free, marked}
+use Rattle.ele_peer_rules.specs.Marks.{after_from, count, counts, marked}
 use Rattle.ele_peer_rules.specs.Spans.{is_newest}
 
 -- what is known of one turn of the loop, at the row of that place

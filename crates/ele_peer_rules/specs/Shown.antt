@@ -1,7 +1,6 @@
 -- What a clock shows at a moment, and the row of a backup.
-use Rattle.std.specs.Prelude.{◌≡◌, ℕ, ◌+◌, ◌*◌, ◌/◌, ◌≤◌}
+use Rattle.std.specs.Prelude.{◌≡◌, ℕ, ◌+◌, ◌*◌, ◌/◌}
 use Rattle.ele_moment.specs.Day.{IsDay, IsDayNumber}
-use Rattle.ele_moment.specs.Last.{last_moment}
 use Rattle.ele_peer_rules.specs.declared.row.Offset.{Offset}
 use Rattle.ele_peer_rules.specs.declared.row.Offset.TheVariants.{Ahead, Behind}
 use Rattle.ele_peer_rules.specs.declared.row.Row.{Row}

@@ -1,5 +1,5 @@
 -- Which rows are the newest of their span.
-use Rattle.std.specs.Prelude.{ℕ, ◌+◌, ◌/◌, ◌==◌, Bool, true, false, not, List, [], ◌∷◌}
+use Rattle.std.specs.Prelude.{◌+◌, ◌/◌, ◌==◌, Bool, true, false, not, List, [], ◌∷◌}
 use Rattle.ele_peer_rules.specs.declared.row.Row.{Row}
 use Rattle.ele_peer_rules.specs.declared.span.Span.{Span}
 use Rattle.ele_peer_rules.specs.declared.span.Span.TheVariants.{Each, Second, Minute, Hour, Day, Week, Month, Year}

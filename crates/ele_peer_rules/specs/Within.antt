@@ -1,5 +1,5 @@
 -- Which rows lie within a length of time before a moment.
-use Rattle.std.specs.Prelude.{◌≡◌, ℕ, ◌+◌, ◌-◌, ◌*◌, ◌/◌, ◌%◌, nat_lt, Bool, ◌||◌, pos, unsigned_abs}
+use Rattle.std.specs.Prelude.{ℕ, ◌+◌, ◌-◌, ◌*◌, ◌/◌, ◌%◌, nat_lt, Bool, ◌||◌, pos, unsigned_abs}
 use Rattle.jiff_core.specs.Calendar.{days_from_civil}
 use Rattle.ele_peer_rules.specs.declared.row.Row.{Row}
 use Rattle.ele_peer_rules.specs.declared.limit.Reach.{Reach}

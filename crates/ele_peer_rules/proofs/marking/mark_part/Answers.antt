@@ -1,4 +1,4 @@
-use Rattle.std.proofs.Common.{◌≡◌, ◌<◌, ◌≤◌, ◌+◌, ◌-◌, ◌==◌, ◌++◌, length, ℕ, suc, take, drop, subst, sym, ◌∙◌, ap, arith, length-drop}
+use Rattle.std.proofs.Common.{◌≡◌, ◌+◌, ◌-◌, ◌==◌, ◌++◌, ℕ, suc, take, drop, subst, ◌∙◌, ap, arith, length-drop}
 use Rattle.ele_peer_rules.specs.Marks.{after_from, count}
 use Rattle.ele_peer_rules.proofs.PartSteps.{IsTurn, count_bound, counts_bound, count_step, marks_step}
 use Rattle.ele_peer_rules.proofs.marking.mark_part.Goals as goal

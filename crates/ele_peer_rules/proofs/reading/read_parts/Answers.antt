@@ -1,4 +1,4 @@
-use Rattle.std.proofs.Common.{rules, tests, ◌≡◌, ◌<◌, ◌==◌, ◌∙◌, length, length-append, map, take, Bor, Bool, false, List, [], ◌∷◌, ◌++◌, ℕ, sym, ap, subst, arith, true≢false}
+use Rattle.std.proofs.Common.{rules, tests, ◌≡◌, ◌==◌, ◌∙◌, length, length-append, map, Bor, false, List, [], ◌∷◌, ℕ, sym, ap, subst, arith, true≢false}
 use Rattle.std.proofs.lemmas.Bool.{eqb-true}
 use Rattle.std.proofs.lemmas.List.{length-map, map-append}
 use Rattle.std.proofs.lemmas.Iterator.Splits.{YieldsList-from_slice_split}
