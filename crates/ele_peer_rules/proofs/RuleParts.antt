@@ -1,10 +1,13 @@
 -- The parts that options spell, one after another: a word spells one part at most.
-use Rattle.std.proofs.Common.{◌≡◌, ℕ, zero, suc, ◌<◌, ◌≤◌, ◌==◌, Bool, false, List, [], ◌∷◌, ◌++◌, length, take, get_or, Result, Ok, Err, refl, sym, ap, subst, ◌∙◌, arith}
+use Rattle.std.proofs.Common.{◌≡◌, ℕ, zero, suc, ◌+◌, ◌<◌, ◌≤◌, ◌==◌, Bool, false, List, [], ◌∷◌, ◌++◌, length, take, get_or, Result, Ok, Err, refl, sym, ap, subst, ◌∙◌, arith}
+use Rattle.std.specs.Prelude.{◌⊎◌}
 use Rattle.std.proofs.lemmas.Bool.Decides.{nat_tests}
 use Rattle.std.specs.List.{AllZip}
 use Rattle.ele_peer_rules.specs.declared.part.Part.{Part}
 use Rattle.ele_peer_rules.specs.declared.part.Tool.{Tool}
 use Rattle.ele_peer_rules.specs.declared.reading.Wrong.{Wrong}
+use Rattle.ele_peer_rules.specs.declared.reading.RuleFault.{RuleFault}
+use Rattle.ele_peer_rules.specs.Faults.{IsFirstWrong, IsRepeated, IsUnspelled}
 use Rattle.ele_peer_rules.specs.Kept.{rank_of}
 use Rattle.ele_peer_rules.specs.Words.{AreApart, SpellsPart, has_rank}
 
@@ -75,3 +78,28 @@ same_ok a b e = cc
 
 pub room : (n : ℕ) (full : Bool) → full ≡ (n == 16) → full ≡ false → n ≤ 16 → n < 16
 room n full is other le = grind (arith, nat_tests)
+
+pub no_part : (wrong : Wrong) (part : Part) → ◌≡◌ {A = Result Part Wrong} (Err wrong) (Ok part) → ⊥
+no_part wrong part e = absurd cc
+
+took : (n : ℕ) (words : List (List ℕ)) → n ≤ length words → length (take n words) ≡ n
+took zero words le = refl
+took (suc n) [] le = absurd (omega (arith, le))
+took (suc n) (w ∷ words) le = ap (λ (m : ℕ). suc m) (took n words (omega (arith, le)))
+
+-- the first option that is wrong
+pub first_wrong : (tool : Tool) (words : List (List ℕ)) (n : ℕ) (kept : List Part) (word : List ℕ) (fault : RuleFault) → n < length words → word ≡ get_or words n word → AllZip (IsOnly tool) (take n words) kept → AreApart [] kept
+    → fault.option ≡ length kept + 1 → IsUnspelled tool word fault.wrong ⊎ IsRepeated tool kept word fault.wrong → IsFirstWrong tool words fault
+first_wrong tool words n kept word fault lt here far once number bad =
+    let spelled = all_spelled tool (take n words) kept far in
+    let count : n ≡ length kept = omega (arith, took n words (omega (arith, lt)), same_count tool (take n words) kept spelled) in
+    record {
+      before = kept;
+      word = word;
+      number = number;
+      in_words = subst (λ (m : ℕ). m < length words) count lt;
+      word_is = subst (λ (m : ℕ). word ≡ get_or words m word) count here;
+      spelled = subst (λ (m : ℕ). AllZip (SpellsPart tool) (take m words) kept) count spelled;
+      once = once;
+      bad = bad;
+    }

@@ -4,3 +4,4 @@ pub mod Spans
 pub mod Marks
 pub mod Kept
 pub mod Words
+pub mod Faults

@@ -1,9 +1,11 @@
 //! Rules in text. A contract sees a word as its bytes.
-ghost use Rattle.std.specs.Prelude.{◌≡◌, List, Ok, Some, IfOk, IfErr, IfSome, true, false};
+ghost use Rattle.std.specs.Prelude.{◌≡◌, List, Ok, Some, IfOk, IfErr, IfSome, true, false, if◌then◌else◌};
 ghost use Rattle.ele_peer_rules.specs.declared.limit.Limit.{Limit};
 ghost use Rattle.ele_peer_rules.specs.declared.part.Part.{Part};
 ghost use Rattle.ele_peer_rules.specs.declared.part.Tool.{Tool};
-ghost use Rattle.ele_peer_rules.specs.Words.{MeansRule, SpellsLimit, SpellsPart, SpellsParts, has_rank, is_all};
+ghost use Rattle.ele_peer_rules.specs.Words.{MeansRule, SpellsLimit, SpellsPart, SpellsParts, has_rank, is_all, is_mark};
+ghost use Rattle.ele_peer_rules.specs.Faults.{IsFault, IsFirstWrong, wrong_of};
+ghost use Rattle.std.specs.List.{slice_split};
 
 use crate::cut::cut_at;
 use crate::length::{read_reach, read_some};
@@ -55,6 +57,7 @@ pub fn read_rule(word: &[u8]) -> Result<PeerRule, RuleFault>
     ensures found { IfOk result (λ rule. MeansRule word.now rule.tool rule.parts.items) }
     ensures none { IfErr result (λ fault. (tool : Tool) (parts : List Part)
         → MeansRule word.now tool parts → ⊥) }
+    ensures fault { IfErr result (IsFault word.now) }
 {
     let Some((name, options)) = cut_at(b':', word) else {
         return Err(fault(0, Wrong::NoTool));
@@ -68,7 +71,9 @@ pub fn read_rule(word: &[u8]) -> Result<PeerRule, RuleFault>
     }
 }
 
-fn fault(option: u64, wrong: Wrong) -> RuleFault {
+fn fault(option: u64, wrong: Wrong) -> RuleFault
+    ensures { result ≡ record { option = option; wrong = wrong } }
+{
     RuleFault { option, wrong }
 }
 
@@ -76,6 +81,7 @@ fn fault(option: u64, wrong: Wrong) -> RuleFault {
 fn read_parts(tool: Tool, text: &[u8]) -> Result<ArrayVec<Part, MOST_PARTS>, RuleFault>
     ensures found { IfOk result (λ parts. SpellsParts tool text.now parts.items) }
     ensures none { IfErr result (λ fault. (parts : List Part) → SpellsParts tool text.now parts → ⊥) }
+    ensures first { IfErr result (IsFirstWrong tool (slice_split (is_mark 44) text.now)) }
 {
     let mut parts = ArrayVec::new();
     for option in text.split(|byte| *byte == b',') {
@@ -106,6 +112,7 @@ fn has_rank(rank: u8, parts: &[Part]) -> bool
 fn read_part(tool: Tool, option: &[u8]) -> Result<Part, Wrong>
     ensures found { IfOk result (SpellsPart tool option.now) }
     ensures only { (part : Part) → SpellsPart tool option.now part → result ≡ Ok part }
+    ensures wrong { IfErr result (λ wrong. wrong ≡ wrong_of tool option.now) }
 {
     let Some((name, value)) = cut_at(b'=', option) else {
         return Err(Wrong::NoValue);
@@ -123,7 +130,9 @@ fn read_part(tool: Tool, option: &[u8]) -> Result<Part, Wrong>
 }
 
 // What is wrong with a value.
-fn bad_value(within: bool) -> Wrong {
+fn bad_value(within: bool) -> Wrong
+    ensures { result ≡ (if within then Wrong.BadLength else Wrong.BadNumber) }
+{
     if within {
         Wrong::BadLength
     } else {

@@ -1,13 +1,14 @@
-use Rattle.std.proofs.Common.{rules, tests, ◌≡◌, ◌==◌, ◌∙◌, length, length-append, map, Bor, false, List, [], ◌∷◌, ℕ, sym, ap, subst, arith, true≢false}
+use Rattle.std.proofs.Common.{rules, tests, ◌≡◌, ◌+◌, ◌==◌, ◌∙◌, length, length-append, map, Bor, false, List, [], ◌∷◌, ℕ, inl, inr, sym, ap, subst, arith, true≢false}
 use Rattle.std.proofs.lemmas.Bool.{eqb-true}
 use Rattle.std.proofs.lemmas.List.{length-map, map-append}
 use Rattle.std.proofs.lemmas.Iterator.Splits.{YieldsList-from_slice_split}
 use Rattle.std.proofs.lemmas.Iterator.Consumers.{YieldsList-at, YieldsList-so_far, YieldsList-turn, YieldsList-end}
 use Rattle.std.specs.List.{AllZip, slice_split}
 use Rattle.ele_peer_rules.specs.declared.part.Part.{Part}
+use Rattle.ele_peer_rules.specs.declared.reading.RuleFault.{RuleFault}
 use Rattle.ele_peer_rules.specs.Kept.{rank_of}
 use Rattle.ele_peer_rules.specs.Words.{AreApart, has_rank, is_mark}
-use Rattle.ele_peer_rules.proofs.RuleParts.{IsOnly, all_spelled, apart_next, apart_push, each_part, next_same, only_push, room, same_count, same_ok}
+use Rattle.ele_peer_rules.proofs.RuleParts.{IsOnly, all_spelled, apart_next, apart_push, each_part, first_wrong, next_same, no_part, only_push, room, same_count, same_ok}
 use Rattle.ele_peer_rules.proofs.reading.read_parts.Goals as goal
 
 pub returns-in-Err-clause-none : goal.returns-in-Err-clause-none
@@ -58,3 +59,33 @@ returns-clause-found c =
       once = c.loop-option.invariant.once;
       few = c.loop-option.invariant.few;
     }
+
+pub returns-in-Err-clause-first : goal.returns-in-Err-clause-first
+returns-in-Err-clause-first c =
+    let turn = YieldsList-turn (YieldsList-at c.into_iter-option-iterator.ensures.into_iter_gives (YieldsList-from_slice_split _ (λ byte. byte == 44) c.args.text.now c.split-option-items.ensures.rest c.split-option-items.ensures.done c.split-option-items.ensures.closure (λ x b q h. search (rules, tests)))) c.loop-option.yielded _ c.loop-option.yielded_by _ _ c.in-Some.option c.in-Some.is c.next.ensures.steps in
+    let far = YieldsList-so_far (YieldsList-at c.into_iter-option-iterator.ensures.into_iter_gives (YieldsList-from_slice_split _ (λ byte. byte == 44) c.args.text.now c.split-option-items.ensures.rest c.split-option-items.ensures.done c.split-option-items.ensures.closure (λ x b q h. search (rules, tests)))) c.loop-option.yielded _ c.loop-option.yielded_by in
+    let each = subst (λ (ws : List (List ℕ)). AllZip (IsOnly c.args.tool) ws c.loop-option.parts.items) far c.loop-option.invariant.each in
+    first_wrong c.args.tool (slice_split (is_mark 44) c.args.text.now) (length c.loop-option.yielded) c.loop-option.parts.items c.in-Some.option.now c.fault.result turn.0 turn.1 each c.loop-option.invariant.once
+    (ap (λ (f : RuleFault). f.option) c.fault.ensures ∙ ap (λ (n : ℕ). n + 1) c.len.ensures.value)
+    (inl (record { none = λ part s. no_part c.in-Err.wrong part (c.in-Err.ensures.only part s); wrong_is = ap (λ (f : RuleFault). f.wrong) c.fault.ensures ∙ c.in-Err.ensures.wrong }))
+
+pub returns-then-is_full-clause-first : goal.returns-then-is_full-clause-first
+returns-then-is_full-clause-first c =
+    let full = eqb-true (length c.loop-option.parts.items) 16 (sym c.is_full.ensures.value ∙ c.if-is_full.true) in
+    let turn = YieldsList-turn (YieldsList-at c.into_iter-option-iterator.ensures.into_iter_gives (YieldsList-from_slice_split _ (λ byte. byte == 44) c.args.text.now c.split-option-items.ensures.rest c.split-option-items.ensures.done c.split-option-items.ensures.closure (λ x b q h. search (rules, tests)))) c.loop-option.yielded _ c.loop-option.yielded_by _ _ c.in-Some.option c.in-Some.is c.next.ensures.steps in
+    let far = YieldsList-so_far (YieldsList-at c.into_iter-option-iterator.ensures.into_iter_gives (YieldsList-from_slice_split _ (λ byte. byte == 44) c.args.text.now c.split-option-items.ensures.rest c.split-option-items.ensures.done c.split-option-items.ensures.closure (λ x b q h. search (rules, tests)))) c.loop-option.yielded _ c.loop-option.yielded_by in
+    let each = subst (λ (ws : List (List ℕ)). AllZip (IsOnly c.args.tool) ws c.loop-option.parts.items) far c.loop-option.invariant.each in
+    first_wrong c.args.tool (slice_split (is_mark 44) c.args.text.now) (length c.loop-option.yielded) c.loop-option.parts.items c.in-Some.option.now c.fault-then-is_full.result turn.0 turn.1 each c.loop-option.invariant.once
+    (ap (λ (f : RuleFault). f.option) c.fault-then-is_full.ensures ∙ ap (λ (n : ℕ). n + 1) c.len.ensures.value)
+    (inr (record { part = c.in-Ok.part; spelled = c.in-Ok.ensures.found; again = inr full; wrong_is = ap (λ (f : RuleFault). f.wrong) c.fault-then-is_full.ensures }))
+
+pub returns-then-has_rank-clause-first : goal.returns-then-has_rank-clause-first
+returns-then-has_rank-clause-first c =
+    let same = ap (λ (rank : ℕ). has_rank rank c.as_slice.result.now) c.rank.ensures.rank ∙ ap (λ (ps : List Part). has_rank (rank_of c.in-Ok.part) ps) c.as_slice.ensures.value in
+    let again = sym same ∙ sym c.has_rank.ensures ∙ c.if-has_rank.true in
+    let turn = YieldsList-turn (YieldsList-at c.into_iter-option-iterator.ensures.into_iter_gives (YieldsList-from_slice_split _ (λ byte. byte == 44) c.args.text.now c.split-option-items.ensures.rest c.split-option-items.ensures.done c.split-option-items.ensures.closure (λ x b q h. search (rules, tests)))) c.loop-option.yielded _ c.loop-option.yielded_by _ _ c.in-Some.option c.in-Some.is c.next.ensures.steps in
+    let far = YieldsList-so_far (YieldsList-at c.into_iter-option-iterator.ensures.into_iter_gives (YieldsList-from_slice_split _ (λ byte. byte == 44) c.args.text.now c.split-option-items.ensures.rest c.split-option-items.ensures.done c.split-option-items.ensures.closure (λ x b q h. search (rules, tests)))) c.loop-option.yielded _ c.loop-option.yielded_by in
+    let each = subst (λ (ws : List (List ℕ)). AllZip (IsOnly c.args.tool) ws c.loop-option.parts.items) far c.loop-option.invariant.each in
+    first_wrong c.args.tool (slice_split (is_mark 44) c.args.text.now) (length c.loop-option.yielded) c.loop-option.parts.items c.in-Some.option.now c.fault-then-has_rank.result turn.0 turn.1 each c.loop-option.invariant.once
+    (ap (λ (f : RuleFault). f.option) c.fault-then-has_rank.ensures ∙ ap (λ (n : ℕ). n + 1) c.len.ensures.value)
+    (inr (record { part = c.in-Ok.part; spelled = c.in-Ok.ensures.found; again = inl again; wrong_is = ap (λ (f : RuleFault). f.wrong) c.fault-then-has_rank.ensures }))
