@@ -46,22 +46,6 @@ impl UsageBook {
         }
     }
 
-    /// Makes the book with these sums of the four kinds, in the order of `Kind`: the inverse of
-    /// `all`.
-    /// Cost: constant time; takes no memory.
-    pub fn from_sums(sums: [Usage; 4]) -> UsageBook
-        ensures { sums ≡ sums_of result kind.One ∷ sums_of result kind.All
-            ∷ sums_of result kind.Safe ∷ sums_of result kind.Landmarks ∷ [] }
-    {
-        let [one, all, safe, landmarks] = sums;
-        UsageBook {
-            one,
-            all,
-            safe,
-            landmarks,
-        }
-    }
-
     /// Returns the sums of the kind.
     pub fn get(&self, kind: Kind) -> Usage
         ensures { result ≡ sums_of self.now kind }
