@@ -80,20 +80,20 @@ pub enum ReadError {
 
 /// A flaw, and how many bytes there were from its place on.
 #[derive(Clone, Copy)]
-pub struct Mistake {
+pub(crate) struct Mistake {
     pub left: usize,
     pub flaw: Flaw,
 }
 
 /// Why a value wasn't read.
 #[derive(Clone, Copy)]
-pub enum Stop {
+pub(crate) enum Stop {
     Memory,
     At(Mistake),
 }
 
 /// A flaw at the first of these bytes.
-pub fn wrong(rest: &[u8], flaw: Flaw) -> Stop
+pub(crate) fn wrong(rest: &[u8], flaw: Flaw) -> Stop
     ensures { result ≡ stop.At (mistake (length rest.now) flaw) }
 {
     Stop::At(Mistake {

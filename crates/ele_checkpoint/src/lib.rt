@@ -14,19 +14,19 @@ macro_rules! taken {
 }
 
 mod checkpoint;
-pub mod coded;
+mod coded;
 mod content;
 mod draft;
 mod fault;
 pub mod laws;
-pub mod number;
+mod number;
 mod row;
 mod seal;
 mod sum;
-pub mod value;
+mod value;
 mod version;
 mod whole;
 
 pub use checkpoint::{read, read_back, write, write_back};
-pub use fault::{Fault, Flaw, Mistake, ReadError, Stop, wrong};
+pub use fault::{Fault, Flaw, ReadError};
 pub use sum::crc32c;
