@@ -1,5 +1,5 @@
 -- Rows, entry after entry.
-use Rattle.ele_audit.proofs.Basics.{List, [], append_assoc, append-nil, ap, length, drop, refl, sym, subst, ℕ, ◌++◌, ◌∷◌, ◌≡◌, ◌≤◌, ◌<◌, ◌+◌, ◌∙◌, get_or, Some, None, false, true, drop_more, at_drop_all, suc, zero}
+use Rattle.ele_audit.proofs.Basics.{List, [], append_assoc, append-nil, arith, ap, length, drop, refl, sym, subst, ℕ, ◌++◌, ◌∷◌, ◌≡◌, ◌≤◌, ◌<◌, ◌+◌, ◌∙◌, get_or, Some, None, false, true, drop_more, at_drop_all, suc, zero}
 use Rattle.ele_audit.proofs.Clocks.{clocked}
 use Rattle.ele_audit.specs.Clock.{clock_after}
 use Rattle.std.specs.List.{AllZip}
@@ -10,9 +10,12 @@ use Rattle.std.specs.Prelude.{Err, IfOk, Ok, Result, Vec}
 use Rattle.ele_audit.specs.declared.row.Removed.{Removed}
 use Rattle.ele_due.specs.declared.key.Key.{Key}
 use Rattle.ele_history.specs.Legal.{IsLegal}
+use Rattle.ele_history.specs.Reached.{IsReachedBy}
+use Rattle.ele_model.specs.declared.event.Event.{Event}
+use Rattle.ele_model.specs.Run.{run_of}
 use Rattle.ele_model.specs.declared.entry.Entry.{Entry}
 use Rattle.ele_model.specs.Step.{step}
-use Rattle.ele_model.specs.World.{World}
+use Rattle.ele_model.specs.World.{World, fresh_world}
 
 -- ---- lists
 
@@ -112,6 +115,17 @@ pub seeks_none : (number : ℕ) (start : World) (entries : List Entry) (i clock 
 seeks_none number start entries i clock le so = so.same ∙ ap (λ (left : List Entry). opened_at number so.w left) (left_none entries i le)
 
 -- ---- the beginnings
+
+empty : {A : Type 0} (xs : List A) → length xs ≡ 0 → xs ≡ []
+empty [] none = refl
+empty (x ∷ xs) none = absurd (omega (arith, none))
+
+-- a base into which nothing was folded is the fresh world
+pub fresh_base : (w : World) (folded : ℕ) → folded ≡ 0 → IsReachedBy folded w → fresh_world w.limits ≡ w
+fresh_base w folded none by =
+    let led = by.reached in
+    let is : w ≡ fresh_world led.limits = led.world ∙ ap (λ (events : List Event). run_of (fresh_world led.limits) events) (empty led.events (by.long ∙ none)) in
+    ap (λ (v : World). fresh_world v.limits) is ∙ sym is
 
 pub replays_none : (R : World × Key → Removed → Type 0) (start w : World) (entries : List Entry) (rows : List Removed) → rows ≡ [] → w ≡ start → Gathers R (removals start entries) (removals w entries) rows
 replays_none R start w entries rows none is = rw (is, none) (gathers_none R (removals start entries))

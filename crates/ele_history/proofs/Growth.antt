@@ -5,7 +5,7 @@ use Rattle.ele_lists.proofs.Alls.{all-append}
 use Rattle.ele_model.specs.declared.entry.Entry.{Entry}
 use Rattle.ele_model.specs.declared.event.Event.{Event}
 use Rattle.ele_model.specs.declared.reply.Reply.{Reply}
-use Rattle.ele_model.proofs.Reached.{fresh_is_start, run_of-append}
+use Rattle.ele_model.proofs.Reached.{run_of-append}
 use Rattle.ele_model.specs.Bounds.{Bounds, AreBounds}
 use Rattle.ele_model.specs.Run.{run_of, IsEvent}
 use Rattle.ele_model.specs.Step.{step}
@@ -30,10 +30,9 @@ legal-append w (x ∷ xs) entry legal is = (legal.0, legal-append ((step w x.eve
 pub begun : (limits : Bounds) → AreBounds limits → IsSound (fresh limits) (fresh_world limits)
 begun limits bounds = record {
   reached = record {
-    reached = record { start = fresh_world limits; begins = fresh_is_start limits bounds; run = record { events = []; are = tt; world = refl } };
+    reached = record { limits = limits; events = []; bounds = bounds; are = tt; world = refl };
     long = refl;
   };
-  unfolded = λ none. refl;
   events = tt;
   legal = tt;
   world = refl;
@@ -47,7 +46,6 @@ grown past event reply before after sound is stepped room =
     let told : ◌≡◌ {A = Reply × World} (reply, after) (step (world_of past) event) = stepped ∙ ap (λ (w : World). step w event) sound.world in
     record {
       reached = sound.reached;
-      unfolded = sound.unfolded;
       events = rw (events_of-append past.entries (entry ∷ [])) (all-append IsEvent (events_of past.entries) (event ∷ []) sound.events (is, tt));
       legal = legal-append past.base past.entries entry sound.legal (ap (λ (x : Reply × World). x.0) told);
       world = ap (λ (x : Reply × World). x.1) told ∙ sym (world_of-extended past entry);

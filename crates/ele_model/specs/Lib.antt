@@ -34,7 +34,6 @@ pub mod RipeMoments
 pub mod RipeRows
 pub mod Run
 pub mod Scan
-pub mod Start
 pub mod Step
 pub mod Tagged
 pub mod Told

@@ -42,4 +42,3 @@ pub mod ReadsStill
 pub mod Writing
 pub mod OneTree
 pub mod NoneInItself
-pub mod Runs

@@ -14,12 +14,6 @@ HaveWriters w = AllByRecursion (λ draft. list_any (is_writer draft.file) w.hand
 abbrev pub DraftsWritten : Type 0
 DraftsWritten = (w : World) (event : Event) → IsWellFormed w → HaveWriters w → HaveWriters ((step w event).1)
 
--- from any well-formed world whose drafts have one
 abbrev pub DraftsWrittenInRuns : Type 0
 DraftsWrittenInRuns =
-    (start : World) (events : List Event) → IsWellFormed start → HaveWriters start → AllByRecursion IsEvent events → HaveWriters (run_of start events)
-
--- and so from the fresh one
-abbrev pub DraftsWrittenInFreshRuns : Type 0
-DraftsWrittenInFreshRuns =
     (limits : Bounds) (events : List Event) → AreBounds limits → AllByRecursion IsEvent events → HaveWriters (run_of (fresh_world limits) events)

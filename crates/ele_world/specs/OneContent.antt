@@ -32,14 +32,7 @@ abbrev pub OneContentStays : Type 0
 OneContentStays =
     (w : World) (event : Event) → IsWellFormed w → HasOneContent w → HasOneContent ((step w event).1)
 
--- from any well-formed world that has it
 abbrev pub OneContentInRuns : Type 0
 OneContentInRuns =
-    (start : World) (events : List Event) → IsWellFormed start → HasOneContent start → AllByRecursion IsEvent events
-    → HasOneContent (run_of start events)
-
--- and so from the fresh one
-abbrev pub OneContentInFreshRuns : Type 0
-OneContentInFreshRuns =
     (limits : Bounds) (events : List Event) → AreBounds limits → AllByRecursion IsEvent events
     → HasOneContent (run_of (fresh_world limits) events)

@@ -28,15 +28,8 @@ pub record IsOneTree (names : List NameRow) : Type 0 where
 abbrev pub OneTree : Type 0
 OneTree = (w : World) (event : Event) → IsWellFormed w → IsOneTree w.names → IsOneTree ((step w event).1).names
 
--- from any well-formed world whose live names are one
 abbrev pub OneTreeInRuns : Type 0
 OneTreeInRuns =
-    (start : World) (events : List Event) → IsWellFormed start → IsOneTree start.names → AllByRecursion IsEvent events
-    → IsOneTree (run_of start events).names
-
--- and so from the fresh one
-abbrev pub OneTreeInFreshRuns : Type 0
-OneTreeInFreshRuns =
     (limits : Bounds) (events : List Event) → AreBounds limits → AllByRecursion IsEvent events → IsOneTree (run_of (fresh_world limits) events).names
 
 abbrev pub NoneInItself : Type 0

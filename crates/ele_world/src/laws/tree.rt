@@ -1,5 +1,5 @@
 //! How live names form a tree. Each law is the contract of a function that does nothing.
-ghost use Rattle.ele_world.specs.OneTree.{NoneInItself, OneTree, OneTreeInFreshRuns, OneTreeInRuns};
+ghost use Rattle.ele_world.specs.OneTree.{NoneInItself, OneTree, OneTreeInRuns};
 
 use ele_policy::laws;
 
@@ -11,12 +11,10 @@ pub fn one_tree()
     laws::policies_are_lawful();
 }
 
-/// After any list of events the live names are one tree, if they were before them. So they are in
-/// every run from the fresh world.
-#[tactic(auto, using(crate::proofs::Runs::one_tree, crate::proofs::Runs::one_tree_fresh))]
+/// After any list of events the live names are one tree.
+#[tactic(auto, using(crate::proofs::OneTree::runs_are, ele_model::proofs::StepKeeps::fresh_is, ele_model::proofs::Formed::in_parts, ele_model::proofs::Words::fresh_world))]
 pub fn one_tree_in_runs()
-    ensures runs { OneTreeInRuns }
-    ensures fresh { OneTreeInFreshRuns }
+    ensures { OneTreeInRuns }
 {
     laws::policies_are_lawful();
 }

@@ -1,5 +1,5 @@
 use Rattle.ele_audit.proofs.Basics.{arith, sym, ◌∙◌, ap}
-use Rattle.ele_audit.proofs.Gathers.{replays_done, replays_more, replays_none}
+use Rattle.ele_audit.proofs.Gathers.{fresh_base, replays_done, replays_more, replays_none}
 use Rattle.ele_audit.specs.Removals.{IsExplained, removals}
 use Rattle.ele_model.specs.World.{World, fresh_world}
 use Rattle.ele_audit.proofs.gone.replayed.Goals as goal
@@ -7,7 +7,7 @@ use Rattle.ele_audit.proofs.gone.replayed.Goals as goal
 pub loop-entry-init : goal.loop-entry-init
 loop-entry-init g c =
     replays_none IsExplained c.args.history.now.base (g.C.Step.world c.in_ok-core.core) c.entries-entries.result.now c.new-rows.result.items c.new-rows.ensures.items
-    (c.in_ok-core.ensures ∙ (ap (λ (w : World). fresh_world w.limits) c.base.ensures.value ∙ sym (c.base.ensures.fresh c.requires)))
+    (c.in_ok-core.ensures ∙ (ap (λ (w : World). fresh_world w.limits) c.base.ensures.value ∙ fresh_base c.args.history.now.base c.args.history.now.folded c.requires c.base.ensures.reached))
 
 pub loop-entry-preserved : goal.loop-entry-preserved
 loop-entry-preserved g c =
