@@ -45,23 +45,6 @@ impl DueQueue {
         }
     }
 
-    /// Makes the queue of these keys, which may stand in any order, and more than once.
-    ///
-    /// `NoMemory` if memory is refused.
-    /// Cost: the keys times the logarithm of their number.
-    pub fn from_keys(alloc: Global, keys: &[Key]) -> Result<DueQueue, NoMemory>
-        ensures value { IfOk result (λ queue. queue ≡ in_order keys.now) }
-        ensures members { IfOk result (λ queue. (k : Key) → has_key k queue ≡ has_key k keys.now) }
-        // Keys in order are the queue.
-        ensures same { IfOk result (λ queue. IsInOrder keys.now → queue ≡ keys.now) }
-    {
-        let mut queue = DueQueue::new(alloc);
-        for key in keys {
-            queue.insert(*key)?;
-        }
-        Ok(queue)
-    }
-
     /// Returns the number of keys.
     pub fn len(&self) -> usize
         ensures value { result ≡ length self.now }
