@@ -11,7 +11,7 @@ use ele_moment::NoMemory;
 use std::alloc::Global;
 
 /// A type whose values have one form as bytes.
-pub(crate) trait Coded: Drop {
+pub trait Coded: Drop {
     ghost use Rattle.std.specs.Prelude.{ℕ, List, Result};
     ghost use Rattle.ele_checkpoint.specs.declared.fault.Mistake.{Mistake};
 
@@ -29,7 +29,7 @@ pub(crate) trait Coded: Drop {
 }
 
 /// Adds the bytes of a list.
-pub(crate) fn put_list<T: Coded>(out: &mut Vec<u8>, items: &[T]) -> Result<(), NoMemory>
+pub fn put_list<T: Coded>(out: &mut Vec<u8>, items: &[T]) -> Result<(), NoMemory>
     ensures { OnOk result (out.new.items ≡ out.old.items ++ list_text T.spelling items.now) }
 {
     put_number(out, items.len() as u64)?;
@@ -41,7 +41,7 @@ pub(crate) fn put_list<T: Coded>(out: &mut Vec<u8>, items: &[T]) -> Result<(), N
 
 /// Reads a list. The bytes after it follow in the result.
 #[tactic(auto, unfolding(crate::specs::PartsRead::list_at))]
-pub(crate) fn list_of<T: Coded>(alloc: Global, bytes: &[u8]) -> Result<(Vec<T>, &[u8]), Stop>
+pub fn list_of<T: Coded>(alloc: Global, bytes: &[u8]) -> Result<(Vec<T>, &[u8]), Stop>
     ensures { Gives (λ x. (x.0.items, x.1.now)) result (list_at T.reading bytes.now) }
 {
     let (count, rest) = number_of(bytes)?;

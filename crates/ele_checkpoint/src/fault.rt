@@ -80,20 +80,20 @@ pub enum ReadError {
 
 /// A flaw, and how many bytes there were from its place on.
 #[derive(Clone, Copy)]
-pub(crate) struct Mistake {
+pub struct Mistake {
     pub left: usize,
     pub flaw: Flaw,
 }
 
 /// Why a value wasn't read.
 #[derive(Clone, Copy)]
-pub(crate) enum Stop {
+pub enum Stop {
     Memory,
     At(Mistake),
 }
 
 /// A flaw at the first of these bytes.
-pub(crate) fn wrong(rest: &[u8], flaw: Flaw) -> Stop
+pub fn wrong(rest: &[u8], flaw: Flaw) -> Stop
     ensures { result ≡ stop.At (mistake (length rest.now) flaw) }
 {
     Stop::At(Mistake {

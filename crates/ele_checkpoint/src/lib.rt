@@ -14,19 +14,19 @@ macro_rules! taken {
 }
 
 mod checkpoint;
-mod coded;
+pub mod coded;
 mod content;
 mod draft;
 mod fault;
 pub mod laws;
-mod number;
+pub mod number;
 mod row;
 mod seal;
 mod sum;
-mod value;
+pub mod value;
 mod version;
 mod whole;
 
 pub use checkpoint::{read, read_back, write, write_back};
-pub use fault::{Fault, Flaw, ReadError};
+pub use fault::{Fault, Flaw, Mistake, ReadError, Stop, wrong};
 pub use sum::crc32c;

@@ -12,7 +12,7 @@ use ele_moment::NoMemory;
 const MOST_HIGH: u64 = 144115188075855871;
 
 /// Adds the bytes of a number.
-pub(crate) fn put_number(out: &mut Vec<u8>, n: u64) -> Result<(), NoMemory>
+pub fn put_number(out: &mut Vec<u8>, n: u64) -> Result<(), NoMemory>
     ensures { OnOk result (out.new.items ≡ out.old.items ++ number_text n) }
 {
     put_digits(out, 9, n)
@@ -32,7 +32,7 @@ fn put_digits(out: &mut Vec<u8>, more: u32, n: u64) -> Result<(), NoMemory>
 }
 
 /// Reads a number. The bytes after it follow in the result.
-pub(crate) fn number_of(bytes: &[u8]) -> Result<(u64, &[u8]), Stop>
+pub fn number_of(bytes: &[u8]) -> Result<(u64, &[u8]), Stop>
     ensures { Gives (λ x. (x.0, x.1.now)) result (number_at bytes.now) }
 {
     digits_of(9, bytes)

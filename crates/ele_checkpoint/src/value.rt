@@ -16,7 +16,7 @@ use ele_policy::{Floor, Interval, Ladder, Policy};
 use std::alloc::Global;
 
 /// Adds bytes, with their number first.
-pub(crate) fn put_string(out: &mut Vec<u8>, bytes: &[u8]) -> Result<(), NoMemory>
+pub fn put_string(out: &mut Vec<u8>, bytes: &[u8]) -> Result<(), NoMemory>
     ensures { OnOk result (out.new.items ≡ out.old.items ++ string_text bytes.now) }
 {
     put_number(out, bytes.len() as u64)?;
@@ -26,7 +26,7 @@ pub(crate) fn put_string(out: &mut Vec<u8>, bytes: &[u8]) -> Result<(), NoMemory
 
 /// Reads bytes that have their number first.
 #[tactic(auto, unfolding(crate::specs::PartsRead::string_at))]
-pub(crate) fn string_of(bytes: &[u8]) -> Result<(&[u8], &[u8]), Stop>
+pub fn string_of(bytes: &[u8]) -> Result<(&[u8], &[u8]), Stop>
     ensures { Gives (λ x. (x.0.now, x.1.now)) result (string_at bytes.now) }
 {
     let (count, rest) = number_of(bytes)?;
@@ -58,7 +58,7 @@ pub(crate) fn truth_of(bytes: &[u8]) -> Result<(bool, &[u8]), Stop>
 }
 
 /// Adds the seconds of a moment.
-pub(crate) fn put_moment(out: &mut Vec<u8>, moment: Moment) -> Result<(), NoMemory>
+pub fn put_moment(out: &mut Vec<u8>, moment: Moment) -> Result<(), NoMemory>
     ensures { OnOk result (out.new.items ≡ out.old.items ++ number_text moment) }
 {
     put_number(out, moment.seconds())
@@ -66,7 +66,7 @@ pub(crate) fn put_moment(out: &mut Vec<u8>, moment: Moment) -> Result<(), NoMemo
 
 /// Reads a moment.
 #[tactic(auto, unfolding(crate::specs::PartsRead::moment_at))]
-pub(crate) fn moment_of(bytes: &[u8]) -> Result<(Moment, &[u8]), Stop>
+pub fn moment_of(bytes: &[u8]) -> Result<(Moment, &[u8]), Stop>
     ensures { Gives (λ x. (x.0, x.1.now)) result (moment_at bytes.now) }
 {
     let (seconds, rest) = number_of(bytes)?;
@@ -77,7 +77,7 @@ pub(crate) fn moment_of(bytes: &[u8]) -> Result<(Moment, &[u8]), Stop>
 }
 
 /// Adds a moment, or that there is none.
-pub(crate) fn put_maybe(out: &mut Vec<u8>, moment: Option<Moment>) -> Result<(), NoMemory>
+pub fn put_maybe(out: &mut Vec<u8>, moment: Option<Moment>) -> Result<(), NoMemory>
     ensures { OnOk result (out.new.items ≡ out.old.items ++ maybe_text moment) }
 {
     match moment {
@@ -94,7 +94,7 @@ pub(crate) fn put_maybe(out: &mut Vec<u8>, moment: Option<Moment>) -> Result<(),
 
 /// Reads a moment, or that there is none.
 #[tactic(auto, unfolding(crate::specs::PartsRead::maybe_at))]
-pub(crate) fn maybe_of(bytes: &[u8]) -> Result<(Option<Moment>, &[u8]), Stop>
+pub fn maybe_of(bytes: &[u8]) -> Result<(Option<Moment>, &[u8]), Stop>
     ensures { Gives (λ x. (x.0, x.1.now)) result (maybe_at bytes.now) }
 {
     match bytes {
@@ -110,7 +110,7 @@ pub(crate) fn maybe_of(bytes: &[u8]) -> Result<(Option<Moment>, &[u8]), Stop>
 
 /// Reads a name.
 #[tactic(auto, unfolding(crate::specs::PartsRead::name_at))]
-pub(crate) fn name_of(bytes: &[u8]) -> Result<(Name, &[u8]), Stop>
+pub fn name_of(bytes: &[u8]) -> Result<(Name, &[u8]), Stop>
     ensures { Gives (λ x. (x.0, x.1.now)) result (name_at bytes.now) }
 {
     let (text, rest) = string_of(bytes)?;
@@ -139,7 +139,7 @@ impl Coded for (u64, u64) {
 }
 
 /// Adds a policy.
-pub(crate) fn put_policy(out: &mut Vec<u8>, value: &Policy) -> Result<(), NoMemory>
+pub fn put_policy(out: &mut Vec<u8>, value: &Policy) -> Result<(), NoMemory>
     ensures { OnOk result (out.new.items ≡ out.old.items ++ policy_text value.now) }
 {
     match value {
@@ -165,7 +165,7 @@ pub(crate) fn put_policy(out: &mut Vec<u8>, value: &Policy) -> Result<(), NoMemo
 
 /// Reads a policy.
 #[tactic(auto, unfolding(crate::specs::PartsRead::policy_at))]
-pub(crate) fn policy_of(alloc: Global, bytes: &[u8]) -> Result<(Policy, &[u8]), Stop>
+pub fn policy_of(alloc: Global, bytes: &[u8]) -> Result<(Policy, &[u8]), Stop>
     ensures { Gives (λ x. (x.0, x.1.now)) result (policy_at bytes.now) }
 {
     match bytes {
