@@ -1,0 +1,5 @@
+pub mod EventForms
+pub mod Changes
+pub mod Journals
+pub mod Starts
+pub mod Steps

@@ -1,0 +1,6 @@
+pub mod Events
+pub mod EventsRead
+pub mod Changes
+pub mod Journal
+pub mod Recovered
+pub mod ChangesRead
