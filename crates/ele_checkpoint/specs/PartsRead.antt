@@ -1,4 +1,4 @@
--- How the bytes of a checkpoint are read, part by part. No public clause cites this module.
+-- How the bytes of a checkpoint are read, part by part. Only the calls that read parts cite this module.
 use Rattle.std.specs.Prelude.{ℕ, zero, suc, ◌+◌, ◌-◌, ◌*◌, ◌==◌, nat_lt, List, [], ◌∷◌, length, Result, Ok, Err, if◌then◌else◌, ◌++◌, nat_le, Bool, true, false, not, ◌&&◌, take, drop, codes, Option, Some, None, nat_eq, ◌≡◌, slice_get}
 use Rattle.ele_checkpoint.specs.declared.fault.Flaw.TheVariants.{Short, Padded, TooLarge}
 use Rattle.ele_checkpoint.specs.declared.fault.Mistake.{Mistake}

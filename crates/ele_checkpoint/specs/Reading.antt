@@ -1,4 +1,4 @@
--- Reading from left to right, with the first mistake that is met. No public clause cites this module.
+-- Reading from left to right, with the first mistake that is met. Only the calls that read parts cite this module.
 use Rattle.std.specs.Prelude.{◌≡◌, ℕ, Result, Ok, Err}
 use Rattle.ele_checkpoint.specs.declared.fault.Flaw.{Flaw}
 use Rattle.ele_checkpoint.specs.declared.fault.Mistake.{Mistake}

@@ -116,7 +116,7 @@ pub is_kept : (bytes more : List ℕ) (r : Recovered) (flat : Flat) (changes : L
 is_kept bytes more r flat changes i base are e =
     let own = first_check r.flat in
     let read : bytes ++ more ≡ start r.flat ++ (changes_text own r.changes ++ (i.rest ++ more)) =
-      ap (λ (t : List ℕ). t ++ more) i.text ∙ append_assoc (journal r.flat r.changes) i.rest more ∙ append_assoc (start r.flat) (changes_text own r.changes) (i.rest ++ more) in
+    ap (λ (t : List ℕ). t ++ more) i.text ∙ append_assoc (journal r.flat r.changes) i.rest more ∙ append_assoc (start r.flat) (changes_text own r.changes) (i.rest ++ more) in
     let once = framed_once (checkpoint r.flat) (checkpoint flat) (changes_text own r.changes ++ (i.rest ++ more)) (changes_text (first_check flat) changes) i.fits base.fits (sym read ∙ e) in
     let world : r.flat ≡ flat = i.only flat base.world once.same in
     let first = first_check flat in
@@ -132,7 +132,7 @@ is_kept bytes more r flat changes i base are e =
       others = f.others;
       front = f.front;
       no_more = λ next last is.
-        omega (arith, ends.no_more next last is, long, whole, length-append (start flat) (changes_text first (r.changes ++ next ∷ [])), ap length (text_push first r.changes next), length-append (changes_text first r.changes) (change_text (last_check first r.changes) next));
+          omega (arith, ends.no_more next last is, long, whole, length-append (start flat) (changes_text first (r.changes ++ next ∷ [])), ap length (text_push first r.changes next), length-append (changes_text first r.changes) (change_text (last_check first r.changes) next));
       rest = cut_at (last_check first r.changes) i.rest more r.whole (length bytes) r.fault f.others f.are end f.text long;
     }
 

@@ -29,7 +29,7 @@ start_found bytes rest tail cp after size begins long behind is le first last =
     let size_is : length cp ≡ size = ap length first ∙ omega (arith, length-take size tail, le) in
     let sized : take 8 rest ≡ to_be_bytes w64 (length cp) = sym is ∙ ap (to_be_bytes w64) (sym size_is) in
     let parts : rest ≡ to_be_bytes w64 (length cp) ++ (cp ++ after) =
-      sym (take-append-drop 8 rest) ∙ ap (λ (t : List ℕ). t ++ drop 8 rest) sized ∙ ap (λ (t : List ℕ). to_be_bytes w64 (length cp) ++ t) (sym behind ∙ sym (rw (first, last) (take-append-drop size tail))) in
+    sym (take-append-drop 8 rest) ∙ ap (λ (t : List ℕ). t ++ drop 8 rest) sized ∙ ap (λ (t : List ℕ). to_be_bytes w64 (length cp) ++ t) (sym behind ∙ sym (rw (first, last) (take-append-drop size tail))) in
     begins ∙ ap (λ (t : List ℕ). head ++ t) parts ∙ sym (append_assoc head (to_be_bytes w64 (length cp)) (cp ++ after)) ∙ sym (append_assoc (heading cp) cp after)
 
 -- what follows the head of framed bytes

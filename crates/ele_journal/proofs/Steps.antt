@@ -109,7 +109,7 @@ lies bytes length_bytes rest size change links is small long change_is agree =
     let text = change_text before change in
     let begins : drop 4 bytes ≡ text ++ drop (length text) (drop 4 bytes) = begins_with (drop 4 bytes) text agree (omega (arith, change_length before change, size_is, d, less, long)) in
     let whole : linked before (size_text change) ++ drop 4 rest ≡ linked before (size_text change) ++ (linked (size_check before change) (events_text change) ++ drop (length text) (drop 4 bytes)) =
-      ap (λ (t : List ℕ). t ++ drop 4 rest) (sym heads) ∙ sym links.text ∙ begins ∙ append_assoc (linked before (size_text change)) (linked (size_check before change) (events_text change)) (drop (length text) (drop 4 bytes)) in
+    ap (λ (t : List ℕ). t ++ drop 4 rest) (sym heads) ∙ sym links.text ∙ begins ∙ append_assoc (linked before (size_text change)) (linked (size_check before change) (events_text change)) (drop (length text) (drop 4 bytes)) in
     record {
       after = drop (length text) (drop 4 bytes);
       long = size_is;

@@ -7,10 +7,10 @@ ghost use Rattle.ele_checkpoint.specs.Values.{string_text};
 ghost use Rattle.ele_journal.specs.Events.{changes, event_text, names_text};
 ghost use Rattle.ele_journal.specs.EventsRead.{event_at, events_at, number_event_at, of_path, path_event_at, paths_event_at};
 
+use crate::items::{Item, list_of};
 use crate::path::{path_of, put_path, put_tag};
 use crate::rule::rule_event_of;
 use crate::session::session_event_of;
-use crate::items::{Item, list_of};
 use ele_checkpoint::number::{number_of, put_number};
 use ele_checkpoint::value::{put_maybe, put_moment, put_policy, put_string};
 use ele_checkpoint::{Flaw, Stop, wrong};

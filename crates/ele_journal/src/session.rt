@@ -8,7 +8,6 @@ use crate::path::path_of;
 use ele_checkpoint::Stop;
 use ele_checkpoint::number::number_of;
 use ele_checkpoint::value::{moment_of, string_of};
-
 use ele_model::{ByteList, Event, ListOf};
 use ele_moment::{Handle, VersionNo};
 use std::alloc::{AllocError, Global};
