@@ -301,7 +301,8 @@ def moves(room: str, asked: argparse.Namespace) -> Counts:
         (top / "f").write_text("two")
         (top / "gone").unlink()
         next_second()
-        seen.expect("a mark", mounted.ask("mark", "g", str(first)), "ok done\n")
+        marked = mounted.ask("mark", "g", str(first)).partition(",")[0]
+        seen.expect("a mark", marked, "ok done: it holds 1 version of 1 of the group's 1 file")
         before, lines = _tree(top), mounted.ask("dump")
         refused = _move(mounted, new)
         found = refused.returncode, "unmount it first" in refused.stderr, new.exists()
