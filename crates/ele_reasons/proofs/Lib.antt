@@ -1,6 +1,7 @@
 mod Basics
 mod Prelude
 pub mod Cuts
+pub mod KindLists
 pub mod PolicyDetail
 pub mod Unknown
 pub mod WhyBad
