@@ -1,7 +1,7 @@
 -- What a writer holds and what is held for it, piece after piece.
-use Rattle.ele_output.proofs.Basics.{Bool, true, false, ◌≡◌, ◌≤◌, ◌<◌, ◌+◌, ℕ, arith, length, length-append, List, [], ◌++◌, Option, Result, Ok, Err, refl, sym, ap, subst, ◌∙◌, append_assoc, append-nil, Appends, Appends-kept, Appends-nil, Keeps, Appends-trans, is_err}
+use Rattle.ele_output.proofs.Basics.{Bool, true, false, ◌≡◌, ◌≤◌, ◌<◌, ◌+◌, ℕ, arith, length, length-append, List, [], ◌∷◌, ◌++◌, Option, Result, Ok, Err, refl, sym, ap, subst, ◌∙◌, append_assoc, append-nil, Appends, Appends-kept, Appends-nil, Keeps, Appends-trans, is_err}
 use Rattle.ele_output.specs.Front.{AppendsFront, WritesText}
-use Rattle.ele_output.specs.Outlet.{HandsOver, IsHandedOver, Outlet, Outputs, Puts, Reports, Sends, room}
+use Rattle.ele_output.specs.Outlet.{HandsOver, IsHandedOver, Outlet, Outputs, Puts, Reports, Sends, StaysInside, room}
 
 -- nothing went out
 outputs_nil : (a : Outlet) → Outputs a a []
@@ -42,19 +42,49 @@ outputs_then {a} {b} {c} {x} {y} p q = by b.has_failed refl where
 outputs_as : {a b : Outlet} {x y : List ℕ} → x ≡ y → Outputs a b x → Outputs a b y
 outputs_as {a} {b} e p = subst (λ (text : List ℕ). Outputs a b text) e p
 
+-- all of it stays in the buffer, if it has room
+abbrev Short : Outlet → Outlet → List ℕ → Type 0
+Short a b bytes = a.has_failed ≡ false → length (a.held ++ bytes) ≤ room → (b.held ≡ a.held ++ bytes) × (b.has_failed ≡ false)
+
+none_before : (xs ys : List ℕ) → length ys ≡ length xs + length ys → xs ≡ []
+none_before [] ys e = refl
+none_before (x ∷ xs) ys e = absurd (omega (arith, e))
+
+stays_inside : {a b : Outlet} {bytes : List ℕ} (p : Outputs a b bytes) → Short a b bytes → StaysInside a.has_failed b.has_failed p.sent p.rest
+unfolding StaysInside
+stays_inside {a} {b} {bytes} p short ok have =
+    let is = short ok (rw p.parts have) in
+    let same : p.rest ≡ p.sent ++ p.rest = p.holds is.1 ∙ is.0 ∙ p.parts in
+    (none_before p.sent p.rest (ap length same ∙ length-append p.sent p.rest), is.1)
+
+-- bytes that went out, and stay in the buffer if it has room, were put
+puts_of : {a b : Outlet} {bytes : List ℕ} → Outputs a b bytes → Short a b bytes → Puts a b bytes
+puts_of p short =
+    record { same = p.same; sent = p.sent; rest = p.rest; parts = p.parts; written = p.written; stays = p.stays; holds = p.holds; inside = stays_inside p short }
+
+pub outputs_of : {a b : Outlet} {bytes : List ℕ} → Puts a b bytes → Outputs a b bytes
+outputs_of p = record { same = p.same; sent = p.sent; rest = p.rest; parts = p.parts; written = p.written; stays = p.stays; holds = p.holds }
+
+-- what has room in the buffer is there, and the printer has not failed
+pub puts_short : {a b : Outlet} {bytes : List ℕ} → Puts a b bytes → a.has_failed ≡ false → length (a.held ++ bytes) ≤ room → (b.held ≡ a.held ++ bytes) × (b.has_failed ≡ false)
+unfolding StaysInside
+puts_short {a} {b} {bytes} p ok have =
+    let is = p.inside ok (rw (sym p.parts) have) in
+    (sym (p.parts ∙ ap (λ (z : List ℕ). z ++ p.rest) is.0 ∙ p.holds is.1), is.1)
+
 -- nothing was put
 pub puts_nil : (a : Outlet) → Puts a a []
-puts_nil a = record { outputs = outputs_nil a; fits = λ ok room. (sym (append-nil a.held), ok) }
+puts_nil a = puts_of (outputs_nil a) (λ ok have. (sym (append-nil a.held), ok))
 
 -- bytes were put, and then others
 pub puts_then : {a b c : Outlet} {x y : List ℕ} → Puts a b x → Puts b c y → Puts a c (x ++ y)
-puts_then {a} {b} {c} {x} {y} p q = record { outputs = outputs_then p.outputs q.outputs; fits = fits } where
-  fits : a.has_failed ≡ false → length (a.held ++ (x ++ y)) ≤ room → (c.held ≡ a.held ++ (x ++ y)) × (c.has_failed ≡ false)
-  fits ok have =
+puts_then {a} {b} {c} {x} {y} p q = puts_of (outputs_then (outputs_of p) (outputs_of q)) short where
+  short : Short a c (x ++ y)
+  short ok have =
       let sum : length (a.held ++ (x ++ y)) ≡ length (a.held ++ x) + length y = ap length (sym (append_assoc a.held x y)) ∙ length-append (a.held ++ x) y in
-      let first = p.fits ok (omega arith) in
+      let first = puts_short p ok (omega arith) in
       let both : length (b.held ++ y) ≤ room = rw (ap (λ (z : List ℕ). z ++ y) first.0 ∙ append_assoc a.held x y) have in
-      let last = q.fits first.1 both in
+      let last = puts_short q first.1 both in
       (last.0 ∙ ap (λ (z : List ℕ). z ++ y) first.0 ∙ append_assoc a.held x y, last.1)
 
 -- the same bytes
@@ -62,14 +92,16 @@ pub puts_as : {a b : Outlet} {x y : List ℕ} → x ≡ y → Puts a b x → Put
 puts_as {a} {b} e p = subst (λ (text : List ℕ). Puts a b text) e p
 
 -- bytes were only held
+pub outputs_held : (a b : Outlet) (bytes : List ℕ) → b.writer ≡ a.writer → b.known ≡ a.known → b.has_failed ≡ a.has_failed → b.held ≡ a.held ++ bytes → Outputs a b bytes
+outputs_held a b bytes w k f e =
+    record { same = w; sent = []; rest = a.held ++ bytes; parts = refl; written = rw k (Appends-nil a.known); stays = λ g. (refl, f ∙ g); holds = λ g. sym e }
+
 pub puts_held : (a b : Outlet) (bytes : List ℕ) → b.writer ≡ a.writer → b.known ≡ a.known → b.has_failed ≡ a.has_failed → b.held ≡ a.held ++ bytes → Puts a b bytes
-puts_held a b bytes w k f e =
-    let outputs : Outputs a b bytes = record { same = w; sent = []; rest = a.held ++ bytes; parts = refl; written = rw k (Appends-nil a.known); stays = λ g. (refl, f ∙ g); holds = λ g. sym e } in
-    record { outputs = outputs; fits = λ ok have. (e, f ∙ ok) }
+puts_held a b bytes w k f e = puts_of (outputs_held a b bytes w k f e) (λ ok have. (e, f ∙ ok))
 
 -- bytes went out that had no room in the buffer
 pub puts_over_room : {a b : Outlet} {bytes : List ℕ} → room < length (a.held ++ bytes) → Outputs a b bytes → Puts a b bytes
-puts_over_room {a} {b} {bytes} long p = record { outputs = p; fits = λ ok have. absurd (omega arith) }
+puts_over_room {a} {b} {bytes} long p = puts_of p (λ ok have. absurd (omega arith))
 
 -- all that was held was handed over, or as much of it as the writer took
 pub puts_sent : (a b : Outlet) → b.writer ≡ a.writer → Sends a.known b.known a.held a.has_failed b.has_failed → b.held ≡ [] → Outputs a b []
@@ -129,7 +161,7 @@ pub outputs_no_more : {a b c : Outlet} {x : List ℕ} → Outputs a b x → Outp
 outputs_no_more {x = x} p q = outputs_as (append-nil x) (outputs_then p q)
 
 pub puts_no_more : {a b c : Outlet} {x : List ℕ} → Puts a b x → Outputs b c [] → Outputs a c x
-puts_no_more p q = outputs_no_more p.outputs q
+puts_no_more p q = outputs_no_more (outputs_of p) q
 
 -- bytes were put, and then all was handed over
 pub puts_over : {A E : Type 0} {a b : Outlet} {x : List ℕ} (c : Outlet) (r : Result A E) → Puts a b x → HandsOver b c [] r → HandsOver a c x r

@@ -1,5 +1,5 @@
 //! A buffered writer, which remembers whether it failed.
-ghost use Rattle.std.specs.Prelude.{◌≡◌, ◌<◌, ◌∷◌, ◌++◌, [], false, length};
+ghost use Rattle.std.specs.Prelude.{◌≡◌, ◌<◌, ◌≤◌, ◌∷◌, ◌++◌, [], false, length};
 ghost use Rattle.std.specs.Result.{is_err};
 ghost use Rattle.ele_output.specs.Front.{WritesText};
 ghost use Rattle.ele_output.specs.Outlet.{HandsOver, Outputs, Reports, Sends, room};
@@ -50,7 +50,8 @@ impl<'w, W: Write> Printer<'w, W> {
 
     /// Returns the bytes in the buffer.
     pub fn held(&self) -> &[u8]
-        ensures { result.now ≡ self.now.held.items }
+        ensures held { result.now ≡ self.now.held.items }
+        ensures fits { length result.now ≤ room }
     {
         self.held.as_slice()
     }

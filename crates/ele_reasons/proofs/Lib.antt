@@ -1,7 +1,6 @@
 mod Basics
 mod Prelude
 pub mod Cuts
-pub mod KindLists
 pub mod PolicyDetail
 pub mod Unknown
 pub mod WhyBad

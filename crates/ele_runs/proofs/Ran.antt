@@ -3,7 +3,7 @@ use Rattle.ele_runs.proofs.Basics.{◌≡◌, ℕ, ◌+◌, ◌≤◌, ◌⊎◌
 use Rattle.ele_runs.proofs.Words.{Outlet, IsTold, most_lines, most_bytes, line_unless_long, whole_line, whole_lines, line_count, AreTold, AnswersAll, RunState}
 use Rattle.ele_runs.proofs.Joins.{lines_before, told_append}
 use Rattle.ele_output.specs.Outlet.{IsHandedOver, Outputs}
-use Rattle.ele_output.proofs.Known.{outputs_no_more, outputs_then, puts_nil}
+use Rattle.ele_output.proofs.Known.{outputs_no_more, outputs_of, outputs_then, puts_nil}
 use Rattle.ele_runs.specs.Telling.{IsToldOf}
 
 -- whole lines were read and a part of one more, and this text answers them, up to this state; so many bytes more are within the
@@ -44,7 +44,7 @@ ran_none start buffer input old clear none first goes_on =
         keeps = clear;
         taken = Consumes-nil input;
       };
-      put = (puts_nil old).outputs;
+      put = outputs_of (puts_nil old);
     }
 
 -- the text for some lines, and then for one more
@@ -102,5 +102,5 @@ ran_on {start} {between} {after} {room} {left} {buffer} {buffer'} {input} {mid} 
         keeps = did.keeps;
         taken = Consumes-trans input mid rest ran.given piece ran.taken taken;
       };
-      put = outputs_then so.put did.put.outputs;
+      put = outputs_then so.put (outputs_of did.put);
     }
