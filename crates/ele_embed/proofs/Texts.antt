@@ -3,7 +3,7 @@ use Rattle.std.proofs.Common.{◌≡◌, ℕ, ◌<◌, ◌≤◌, List, [], ◌+
 use Rattle.std.specs.Prelude.{◌≢◌}
 use Rattle.std.proofs.Math.Nat.{lt_of_not-le}
 use Rattle.ele_output.proofs.Known.{puts_short}
-use Rattle.ele_output.specs.Outlet.{Outlet, Puts, StaysInside, room}
+use Rattle.ele_output.specs.Outlet.{HasRoom, Outlet, Puts, room}
 
 -- all of it went to the writer or is in the buffer
 pub told_all : {a b : Outlet} {front text : List ℕ} → Puts a b text → a.held ≡ [] → a.known ≡ Some [] → b.known ≡ Some front → b.has_failed ≡ false → text ≡ front ++ b.held
@@ -13,7 +13,7 @@ told_all {a} {b} {front} {text} p none from is ok =
 
 -- some went to the writer, so that not all has room in the buffer
 pub sent_long : {a b : Outlet} {front text : List ℕ} → Puts a b text → a.held ≡ [] → a.has_failed ≡ false → a.known ≡ Some [] → b.known ≡ Some front → front ≢ [] → room < length text
-unfolding StaysInside
+unfolding HasRoom
 sent_long {a} {b} {front} {text} p none well from is some =
     let sent : front ≡ p.sent = rw (from, is) at p.written in
     let parts : text ≡ p.sent ++ p.rest = ap (λ (z : List ℕ). z ++ text) (sym none) ∙ p.parts in

@@ -289,12 +289,7 @@ fn put_said<W: Write>(said: &Said, keeper: &Keeper, printer: &mut Printer<'_, W>
         × Prints W.contents printer.old printer.new text }
 {
     match keeper.history() {
-        Some(history) => said.put(
-            keeper.last(),
-            history.folded(),
-            history.entries(),
-            printer,
-        ),
+        Some(history) => said.put(keeper.last(), history.folded(), history.entries(), printer),
         None => said.put(keeper.last(), 0, &[], printer),
     }
 }

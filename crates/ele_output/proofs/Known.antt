@@ -1,7 +1,7 @@
 -- What a writer holds and what is held for it, piece after piece.
 use Rattle.ele_output.proofs.Basics.{Bool, true, false, ◌≡◌, ◌≤◌, ◌<◌, ◌+◌, ℕ, arith, length, length-append, List, [], ◌∷◌, ◌++◌, Option, Result, Ok, Err, refl, sym, ap, subst, ◌∙◌, append_assoc, append-nil, Appends, Appends-kept, Appends-nil, Keeps, Appends-trans, is_err}
 use Rattle.ele_output.specs.Front.{AppendsFront, WritesText}
-use Rattle.ele_output.specs.Outlet.{HandsOver, IsHandedOver, Outlet, Outputs, Puts, Reports, Sends, StaysInside, room}
+use Rattle.ele_output.specs.Outlet.{HandsOver, IsHandedOver, Outlet, Outputs, Puts, Reports, Sends, HasRoom, room}
 
 -- nothing went out
 outputs_nil : (a : Outlet) → Outputs a a []
@@ -50,8 +50,8 @@ none_before : (xs ys : List ℕ) → length ys ≡ length xs + length ys → xs 
 none_before [] ys e = refl
 none_before (x ∷ xs) ys e = absurd (omega (arith, e))
 
-stays_inside : {a b : Outlet} {bytes : List ℕ} (p : Outputs a b bytes) → Short a b bytes → StaysInside a.has_failed b.has_failed p.sent p.rest
-unfolding StaysInside
+stays_inside : {a b : Outlet} {bytes : List ℕ} (p : Outputs a b bytes) → Short a b bytes → a.has_failed ≡ false → HasRoom (p.sent ++ p.rest) → (p.sent ≡ []) × (b.has_failed ≡ false)
+unfolding HasRoom
 stays_inside {a} {b} {bytes} p short ok have =
     let is = short ok (rw p.parts have) in
     let same : p.rest ≡ p.sent ++ p.rest = p.holds is.1 ∙ is.0 ∙ p.parts in
@@ -67,7 +67,7 @@ outputs_of p = record { same = p.same; sent = p.sent; rest = p.rest; parts = p.p
 
 -- what has room in the buffer is there, and the printer has not failed
 pub puts_short : {a b : Outlet} {bytes : List ℕ} → Puts a b bytes → a.has_failed ≡ false → length (a.held ++ bytes) ≤ room → (b.held ≡ a.held ++ bytes) × (b.has_failed ≡ false)
-unfolding StaysInside
+unfolding HasRoom
 puts_short {a} {b} {bytes} p ok have =
     let is = p.inside ok (rw (sym p.parts) have) in
     (sym (p.parts ∙ ap (λ (z : List ℕ). z ++ p.rest) is.0 ∙ p.holds is.1), is.1)

@@ -25,9 +25,9 @@ pub record Outputs (old new : Outlet) (bytes : List ℕ) : Type 0 where
   pub stays : old.has_failed ≡ true → (sent ≡ []) × (new.has_failed ≡ true)
   pub holds : new.has_failed ≡ false → rest ≡ new.held
 
--- the writer got nothing and the printer has not failed, if it had not before and the buffer has room for all
-unfoldable pub StaysInside : Bool → Bool → List ℕ → List ℕ → Type 0
-StaysInside had_failed has_failed sent rest = had_failed ≡ false → length (sent ++ rest) ≤ room → (sent ≡ []) × (has_failed ≡ false)
+-- the buffer has room for these bytes
+unfoldable pub HasRoom : List ℕ → Type 0
+HasRoom bytes = length bytes ≤ room
 
 -- these bytes were printed after the others: they went out, but all stay in the buffer if it has room for them and for what it held
 pub record Puts (old new : Outlet) (bytes : List ℕ) : Type 0 where
@@ -38,7 +38,7 @@ pub record Puts (old new : Outlet) (bytes : List ℕ) : Type 0 where
   pub written : Appends old.known new.known sent
   pub stays : old.has_failed ≡ true → (sent ≡ []) × (new.has_failed ≡ true)
   pub holds : new.has_failed ≡ false → rest ≡ new.held
-  pub inside : StaysInside old.has_failed new.has_failed sent rest
+  pub inside : old.has_failed ≡ false → HasRoom (sent ++ rest) → (sent ≡ []) × (new.has_failed ≡ false)
 
 -- these bytes were printed, and nothing is in the buffer: the writer took all that was printed, unless it failed
 abbrev pub Reports : Outlet → Outlet → List ℕ → Type 0
