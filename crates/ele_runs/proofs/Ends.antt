@@ -15,7 +15,7 @@ use Rattle.ele_runs.proofs.Courses.{clash, manner_stays, strict_run}
 use Rattle.ele_runs.proofs.Joins.{told_append}
 use Rattle.ele_run_options.specs.declared.options.RunOptions.{RunOptions}
 use Rattle.ele_runs.proofs.Ran.{RanSoFar}
-use Rattle.ele_output.specs.Outlet.{IsHandedOver, Outputs, Puts}
+use Rattle.ele_output.specs.Outlet.{IsHandedOver, Puts}
 use Rattle.ele_output.proofs.Known.{all_written, front_written}
 
 -- if nothing is left, all was read
@@ -84,10 +84,10 @@ kept_empty : (part : List ℕ) → line_unless_long part ≡ Some [] → part �
 kept_empty part e = grind (arith, nat_tests)
 
 -- if all was handed over, the text that was put was written, and otherwise its beginning
-pub all_out : {Told : List ℕ → Type 0} {old new : Outlet} {text : List ℕ} → old.held ≡ [] → Outputs old new text → IsHandedOver new → Told text → Writes Told old.known new.known
+pub all_out : {Told : List ℕ → Type 0} {old new : Outlet} {text : List ℕ} → old.held ≡ [] → Puts old new text → IsHandedOver new → Told text → Writes Told old.known new.known
 all_out none put over told = record { text = _; told = told; written = all_written none put over }
 
-pub front_out : {Told : List ℕ → Type 0} {old new : Outlet} {text : List ℕ} → old.held ≡ [] → Outputs old new text → Told text → WritesFront Told old.known new.known
+pub front_out : {Told : List ℕ → Type 0} {old new : Outlet} {text : List ℕ} → old.held ≡ [] → Puts old new text → Told text → WritesFront Told old.known new.known
 front_out none put told = record { text = _; told = told; written = front_written none put }
 
 -- a reader fails with ReadFault
