@@ -26,4 +26,3 @@ pub mod OpenedKeys
 pub mod ToldVersions
 pub mod Walked
 pub mod Fated
-pub mod OfRows

@@ -3,7 +3,6 @@ use Rattle.std.specs.Prelude.{◌≡◌, ℕ, ◌-◌, ◌==◌, nat_le, Bool, t
 use Rattle.std.specs.Option.{option_map, option_map_or}
 use Rattle.ele_due.specs.declared.key.Key.{Key}
 use Rattle.ele_due.specs.HasKey.{has_key}
-use Rattle.ele_due.specs.Key.{is_key}
 use Rattle.ele_fates.specs.Alone.{few_enough}
 use Rattle.ele_fates.specs.Keys.{comes, goes}
 use Rattle.ele_fates.specs.declared.keys.KeyChange.{KeyChange}
@@ -20,10 +19,6 @@ use Rattle.ele_model.specs.Told.{info_of}
 use Rattle.ele_model.specs.declared.rows.VersionInfo.{VersionInfo}
 use Rattle.ele_model.specs.declared.rows.VersionRow.{VersionRow}
 use Rattle.ele_model.specs.World.{World, next_of, is_open, is_version}
-
--- there is a key, and it is this one
-abbrev pub is_some_key : Key → Option Key → Bool
-is_some_key k key = option_map_or (is_key k) key false
 
 -- the queue has the key of each version that has a ripe moment, and no other
 abbrev pub IsQueued : World → List Key → Type 0

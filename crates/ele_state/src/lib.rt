@@ -16,7 +16,6 @@ ghost use Rattle.ele_state.specs.Full.{is_full, made_of};
 
 mod append;
 mod book;
-mod derived;
 mod directory;
 mod due;
 mod fate;
