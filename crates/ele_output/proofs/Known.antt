@@ -1,16 +1,16 @@
 -- What a writer holds and what is held for it, piece after piece.
-use Rattle.ele_output.proofs.Basics.{Bool, true, false, ◌≡◌, ℕ, List, [], ◌++◌, Option, Result, Ok, Err, refl, sym, ap, subst, ◌∙◌, append_assoc, append-nil, Appends, Appends-kept, Appends-nil, Keeps, Appends-trans, is_err}
+use Rattle.ele_output.proofs.Basics.{Bool, true, false, ◌≡◌, ◌≤◌, ◌<◌, ◌+◌, ℕ, arith, length, length-append, List, [], ◌∷◌, ◌++◌, Option, Result, Ok, Err, refl, sym, ap, subst, ◌∙◌, append_assoc, append-nil, Appends, Appends-kept, Appends-nil, Keeps, Appends-trans, is_err}
 use Rattle.ele_output.specs.Front.{AppendsFront, WritesText}
-use Rattle.ele_output.specs.Outlet.{HandsOver, IsHandedOver, Outlet, Puts, Reports, Sends}
+use Rattle.ele_output.specs.Outlet.{HandsOver, IsHandedOver, Outlet, Outputs, Puts, Reports, Sends, HasRoom, room}
 
--- nothing was put
-pub puts_nil : (a : Outlet) → Puts a a []
-puts_nil a = record { same = refl; sent = []; rest = a.held; parts = append-nil a.held; written = Appends-nil a.known; stays = λ e. (refl, e); holds = λ e. refl }
+-- nothing went out
+outputs_nil : (a : Outlet) → Outputs a a []
+outputs_nil a = record { same = refl; sent = []; rest = a.held; parts = append-nil a.held; written = Appends-nil a.known; stays = λ e. (refl, e); holds = λ e. refl }
 
--- bytes were put, and then others
-pub puts_then : {a b c : Outlet} {x y : List ℕ} → Puts a b x → Puts b c y → Puts a c (x ++ y)
-puts_then {a} {b} {c} {x} {y} p q = by b.has_failed refl where
-  by : (failed : Bool) → b.has_failed ≡ failed → Puts a c (x ++ y)
+-- bytes went out, and then others
+pub outputs_then : {a b c : Outlet} {x y : List ℕ} → Outputs a b x → Outputs b c y → Outputs a c (x ++ y)
+outputs_then {a} {b} {c} {x} {y} p q = by b.has_failed refl where
+  by : (failed : Bool) → b.has_failed ≡ failed → Outputs a c (x ++ y)
   by true e =
       let more = q.stays e in
       let parts : a.held ++ (x ++ y) ≡ p.sent ++ (p.rest ++ y) = sym (append_assoc a.held x y) ∙ ap (λ (z : List ℕ). z ++ y) p.parts ∙ append_assoc p.sent p.rest y in
@@ -39,21 +39,77 @@ puts_then {a} {b} {c} {x} {y} p q = by b.has_failed refl where
       }
 
 -- the same bytes
+outputs_as : {a b : Outlet} {x y : List ℕ} → x ≡ y → Outputs a b x → Outputs a b y
+outputs_as {a} {b} e p = subst (λ (text : List ℕ). Outputs a b text) e p
+
+-- all of it stays in the buffer, if it has room
+abbrev Short : Outlet → Outlet → List ℕ → Type 0
+Short a b bytes = a.has_failed ≡ false → length (a.held ++ bytes) ≤ room → (b.held ≡ a.held ++ bytes) × (b.has_failed ≡ false)
+
+none_before : (xs ys : List ℕ) → length ys ≡ length xs + length ys → xs ≡ []
+none_before [] ys e = refl
+none_before (x ∷ xs) ys e = absurd (omega (arith, e))
+
+stays_inside : {a b : Outlet} {bytes : List ℕ} (p : Outputs a b bytes) → Short a b bytes → a.has_failed ≡ false → HasRoom (p.sent ++ p.rest) → (p.sent ≡ []) × (b.has_failed ≡ false)
+unfolding HasRoom
+stays_inside {a} {b} {bytes} p short ok have =
+    let is = short ok (rw p.parts have) in
+    let same : p.rest ≡ p.sent ++ p.rest = p.holds is.1 ∙ is.0 ∙ p.parts in
+    (none_before p.sent p.rest (ap length same ∙ length-append p.sent p.rest), is.1)
+
+-- bytes that went out, and stay in the buffer if it has room, were put
+puts_of : {a b : Outlet} {bytes : List ℕ} → Outputs a b bytes → Short a b bytes → Puts a b bytes
+puts_of p short =
+    record { same = p.same; sent = p.sent; rest = p.rest; parts = p.parts; written = p.written; stays = p.stays; holds = p.holds; inside = stays_inside p short }
+
+pub outputs_of : {a b : Outlet} {bytes : List ℕ} → Puts a b bytes → Outputs a b bytes
+outputs_of p = record { same = p.same; sent = p.sent; rest = p.rest; parts = p.parts; written = p.written; stays = p.stays; holds = p.holds }
+
+-- what has room in the buffer is there, and the printer has not failed
+pub puts_short : {a b : Outlet} {bytes : List ℕ} → Puts a b bytes → a.has_failed ≡ false → length (a.held ++ bytes) ≤ room → (b.held ≡ a.held ++ bytes) × (b.has_failed ≡ false)
+unfolding HasRoom
+puts_short {a} {b} {bytes} p ok have =
+    let is = p.inside ok (rw (sym p.parts) have) in
+    (sym (p.parts ∙ ap (λ (z : List ℕ). z ++ p.rest) is.0 ∙ p.holds is.1), is.1)
+
+-- nothing was put
+pub puts_nil : (a : Outlet) → Puts a a []
+puts_nil a = puts_of (outputs_nil a) (λ ok have. (sym (append-nil a.held), ok))
+
+-- bytes were put, and then others
+pub puts_then : {a b c : Outlet} {x y : List ℕ} → Puts a b x → Puts b c y → Puts a c (x ++ y)
+puts_then {a} {b} {c} {x} {y} p q = puts_of (outputs_then (outputs_of p) (outputs_of q)) short where
+  short : Short a c (x ++ y)
+  short ok have =
+      let sum : length (a.held ++ (x ++ y)) ≡ length (a.held ++ x) + length y = ap length (sym (append_assoc a.held x y)) ∙ length-append (a.held ++ x) y in
+      let first = puts_short p ok (omega arith) in
+      let both : length (b.held ++ y) ≤ room = rw (ap (λ (z : List ℕ). z ++ y) first.0 ∙ append_assoc a.held x y) have in
+      let last = puts_short q first.1 both in
+      (last.0 ∙ ap (λ (z : List ℕ). z ++ y) first.0 ∙ append_assoc a.held x y, last.1)
+
+-- the same bytes
 pub puts_as : {a b : Outlet} {x y : List ℕ} → x ≡ y → Puts a b x → Puts a b y
 puts_as {a} {b} e p = subst (λ (text : List ℕ). Puts a b text) e p
 
 -- bytes were only held
-pub puts_held : (a b : Outlet) (bytes : List ℕ) → b.writer ≡ a.writer → b.known ≡ a.known → b.has_failed ≡ a.has_failed → b.held ≡ a.held ++ bytes → Puts a b bytes
-puts_held a b bytes w k f e =
+pub outputs_held : (a b : Outlet) (bytes : List ℕ) → b.writer ≡ a.writer → b.known ≡ a.known → b.has_failed ≡ a.has_failed → b.held ≡ a.held ++ bytes → Outputs a b bytes
+outputs_held a b bytes w k f e =
     record { same = w; sent = []; rest = a.held ++ bytes; parts = refl; written = rw k (Appends-nil a.known); stays = λ g. (refl, f ∙ g); holds = λ g. sym e }
 
+pub puts_held : (a b : Outlet) (bytes : List ℕ) → b.writer ≡ a.writer → b.known ≡ a.known → b.has_failed ≡ a.has_failed → b.held ≡ a.held ++ bytes → Puts a b bytes
+puts_held a b bytes w k f e = puts_of (outputs_held a b bytes w k f e) (λ ok have. (e, f ∙ ok))
+
+-- bytes went out that had no room in the buffer
+pub puts_over_room : {a b : Outlet} {bytes : List ℕ} → room < length (a.held ++ bytes) → Outputs a b bytes → Puts a b bytes
+puts_over_room {a} {b} {bytes} long p = puts_of p (λ ok have. absurd (omega arith))
+
 -- all that was held was handed over, or as much of it as the writer took
-pub puts_sent : (a b : Outlet) → b.writer ≡ a.writer → Sends a.known b.known a.held a.has_failed b.has_failed → b.held ≡ [] → Puts a b []
+pub puts_sent : (a b : Outlet) → b.writer ≡ a.writer → Sends a.known b.known a.held a.has_failed b.has_failed → b.held ≡ [] → Outputs a b []
 puts_sent a b w s none =
     record { same = w; sent = s.sent; rest = s.rest; parts = append-nil a.held ∙ s.parts; written = s.written; stays = s.stays; holds = λ g. s.whole g ∙ sym none }
 
 -- bytes are written at once, if the buffer is empty
-pub puts_direct : (a b : Outlet) (bytes : List ℕ) → b.writer ≡ a.writer → a.held ≡ [] → Sends a.known b.known bytes a.has_failed b.has_failed → b.held ≡ [] → Puts a b bytes
+pub puts_direct : (a b : Outlet) (bytes : List ℕ) → b.writer ≡ a.writer → a.held ≡ [] → Sends a.known b.known bytes a.has_failed b.has_failed → b.held ≡ [] → Outputs a b bytes
 puts_direct a b bytes w from s none =
     record { same = w; sent = s.sent; rest = s.rest; parts = ap (λ (z : List ℕ). z ++ bytes) from ∙ s.parts; written = s.written; stays = s.stays; holds = λ g. s.whole g ∙ sym none }
 
@@ -90,19 +146,22 @@ pub put_all : {a b : Outlet} {whole rest : List ℕ} → HasPut a b whole rest �
 put_all h e = puts_as (sym (h.parts ∙ ap (λ (z : List ℕ). h.front ++ z) e ∙ append-nil h.front)) h.done
 
 -- all output is written, if the buffer was empty before and is written now
-pub all_written : {a b : Outlet} {text : List ℕ} → a.held ≡ [] → Puts a b text → IsHandedOver b → Appends a.known b.known text
+pub all_written : {a b : Outlet} {text : List ℕ} → a.held ≡ [] → Outputs a b text → IsHandedOver b → Appends a.known b.known text
 all_written {a} {b} {text} none p over =
     let same : text ≡ p.sent = ap (λ (z : List ℕ). z ++ text) (sym none) ∙ p.parts ∙ ap (λ (z : List ℕ). p.sent ++ z) (p.holds over.1 ∙ over.0) ∙ append-nil p.sent in
     rw same p.written
 
 -- and otherwise a prefix of it
-pub front_written : {a b : Outlet} {text : List ℕ} → a.held ≡ [] → Puts a b text → AppendsFront a.known b.known text
+pub front_written : {a b : Outlet} {text : List ℕ} → a.held ≡ [] → Outputs a b text → AppendsFront a.known b.known text
 front_written {a} {b} {text} none p =
     record { front = p.sent; back = p.rest; parts = ap (λ (z : List ℕ). z ++ text) (sym none) ∙ p.parts; written = p.written }
 
--- nothing more was put
-pub puts_no_more : {a b c : Outlet} {x : List ℕ} → Puts a b x → Puts b c [] → Puts a c x
-puts_no_more {x = x} p q = puts_as (append-nil x) (puts_then p q)
+-- nothing more went out
+pub outputs_no_more : {a b c : Outlet} {x : List ℕ} → Outputs a b x → Outputs b c [] → Outputs a c x
+outputs_no_more {x = x} p q = outputs_as (append-nil x) (outputs_then p q)
+
+pub puts_no_more : {a b c : Outlet} {x : List ℕ} → Puts a b x → Outputs b c [] → Outputs a c x
+puts_no_more p q = outputs_no_more (outputs_of p) q
 
 -- bytes were put, and then all was handed over
 pub puts_over : {A E : Type 0} {a b : Outlet} {x : List ℕ} (c : Outlet) (r : Result A E) → Puts a b x → HandsOver b c [] r → HandsOver a c x r

@@ -1,5 +1,5 @@
 -- What a writer took, and what its buffer holds.
-use Rattle.std.specs.Prelude.{◌≡◌, ℕ, Bool, true, false, List, [], ◌++◌, Option, Result, Ok, Err}
+use Rattle.std.specs.Prelude.{◌≡◌, ◌≤◌, ℕ, Bool, true, false, List, [], ◌++◌, length, Option, Result, Ok, Err}
 use Rattle.std.specs.Borrow.{GName}
 use Rattle.std.specs.Io.KnownBytes.{Appends}
 
@@ -11,8 +11,12 @@ pub record Outlet : Type 0 where
   pub held : List ℕ
   pub has_failed : Bool
 
--- these bytes were printed after the others: the writer took a prefix of all, and the rest is in the buffer, or lost if the writer failed
-pub record Puts (old new : Outlet) (bytes : List ℕ) : Type 0 where
+-- how many bytes a buffer has room for
+abbrev pub room : ℕ
+room = 8192
+
+-- these bytes went out after the others: the writer took a prefix of all, and the rest is in the buffer, or lost if the writer failed
+pub record Outputs (old new : Outlet) (bytes : List ℕ) : Type 0 where
   pub same : new.writer ≡ old.writer
   pub sent : List ℕ
   pub rest : List ℕ
@@ -21,9 +25,24 @@ pub record Puts (old new : Outlet) (bytes : List ℕ) : Type 0 where
   pub stays : old.has_failed ≡ true → (sent ≡ []) × (new.has_failed ≡ true)
   pub holds : new.has_failed ≡ false → rest ≡ new.held
 
+-- the buffer has room for these bytes
+unfoldable pub HasRoom : List ℕ → Type 0
+HasRoom bytes = length bytes ≤ room
+
+-- these bytes were printed after the others: they went out, but all stay in the buffer if it has room for them and for what it held
+pub record Puts (old new : Outlet) (bytes : List ℕ) : Type 0 where
+  pub same : new.writer ≡ old.writer
+  pub sent : List ℕ
+  pub rest : List ℕ
+  pub parts : old.held ++ bytes ≡ sent ++ rest
+  pub written : Appends old.known new.known sent
+  pub stays : old.has_failed ≡ true → (sent ≡ []) × (new.has_failed ≡ true)
+  pub holds : new.has_failed ≡ false → rest ≡ new.held
+  pub inside : old.has_failed ≡ false → HasRoom (sent ++ rest) → (sent ≡ []) × (new.has_failed ≡ false)
+
 -- these bytes were printed, and nothing is in the buffer: the writer took all that was printed, unless it failed
 abbrev pub Reports : Outlet → Outlet → List ℕ → Type 0
-Reports old new bytes = Puts old new bytes × (new.held ≡ [])
+Reports old new bytes = Outputs old new bytes × (new.held ≡ [])
 
 -- the buffer is empty, and the writer has not failed
 abbrev pub IsHandedOver : Outlet → Type 0
@@ -31,8 +50,8 @@ IsHandedOver o = (o.held ≡ []) × (o.has_failed ≡ false)
 
 -- these bytes were printed and the buffer was written, or the writer failed
 abbrev pub HandsOver : {A E : Type 0} → Outlet → Outlet → List ℕ → Result A E → Type 0
-HandsOver old new bytes (Ok _) = Puts old new bytes × IsHandedOver new
-HandsOver old new bytes (Err _) = Puts old new bytes
+HandsOver old new bytes (Ok _) = Outputs old new bytes × IsHandedOver new
+HandsOver old new bytes (Err _) = Outputs old new bytes
 
 -- bytes were written to a writer, or a prefix of them if it failed, or none of them if it had failed before
 pub record Sends (old new : Option (List ℕ)) (bytes : List ℕ) (had_failed has_failed : Bool) : Type 0 where

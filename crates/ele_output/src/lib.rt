@@ -10,4 +10,4 @@ mod printer;
 pub use fault::WriteFault;
 pub use line::{put_line, put_word, put_words};
 pub use number::{put_number, put_with_number};
-pub use printer::{Printer, write_all};
+pub use printer::{Printer, ROOM, write_all};

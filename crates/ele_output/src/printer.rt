@@ -1,16 +1,16 @@
 //! A buffered writer, which remembers whether it failed.
-ghost use Rattle.std.specs.Prelude.{◌≡◌, ◌∷◌, [], false};
+ghost use Rattle.std.specs.Prelude.{◌≡◌, ◌<◌, ◌≤◌, ◌∷◌, ◌++◌, [], false, length};
 ghost use Rattle.std.specs.Result.{is_err};
 ghost use Rattle.ele_output.specs.Front.{WritesText};
-ghost use Rattle.ele_output.specs.Outlet.{HandsOver, Reports, Sends};
+ghost use Rattle.ele_output.specs.Outlet.{HandsOver, Outputs, Reports, Sends, room};
 ghost use Rattle.ele_output.specs.Prints.{outlet, Prints};
 
 use crate::fault::WriteFault;
 use arrayvec::ArrayVec;
 use std::io::{ErrorKind, Write};
 
-/// The size of the buffer, in bytes.
-const ROOM: usize = 8192;
+/// The size of a printer's buffer, in bytes.
+pub const ROOM: usize = 8192;
 
 /// A writer and a buffer. Once the writer has failed it gets no more bytes, and later output is
 /// lost; `hand_over` returns the fault. Output that is still in the buffer when a printer is
@@ -46,6 +46,14 @@ impl<'w, W: Write> Printer<'w, W> {
         } else {
             Ok(())
         }
+    }
+
+    /// Returns the bytes in the buffer.
+    pub fn held(&self) -> &[u8]
+        ensures held { result.now ≡ self.now.held.items }
+        ensures fits { length result.now ≤ room }
+    {
+        self.held.as_slice()
     }
 
     /// Writes the buffer to the writer. Returns a fault if the writer fails, or has failed before:
@@ -88,9 +96,11 @@ impl<'w, W: Write> Printer<'w, W> {
         }
     }
 
-    // Writes the buffer first, and then prints the bytes, into the buffer if they fit.
+    // Writes the buffer first, and then prints bytes that have no room behind it, into the buffer if they
+    // fit alone.
     #[inline(never)]
     fn put_behind(&mut self, bytes: &[u8])
+        requires { room < length (self.old.held.items ++ bytes.now) }
         ensures { Prints W.contents self.old self.new bytes.now }
     {
         self.send_held();
@@ -102,7 +112,7 @@ impl<'w, W: Write> Printer<'w, W> {
 
     // Writes the buffer to the writer, and empties it.
     fn send_held(&mut self)
-        ensures sent { Prints W.contents self.old self.new [] }
+        ensures sent { Outputs (outlet W.contents self.old) (outlet W.contents self.new) [] }
         ensures none { self.new.held.items ≡ [] }
     {
         self.has_failed = send(self.writer, self.held.as_slice(), self.has_failed);
