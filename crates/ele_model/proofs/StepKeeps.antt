@@ -4,7 +4,7 @@ use Rattle.ele_model.proofs.Words.{Bounds, AreBounds, run_of, IsEvent, PoliciesA
 use Rattle.ele_model.proofs.Allowed.{allowed, default_is}
 use Rattle.ele_model.proofs.Formed.{in_parts, well_formed}
 use Rattle.ele_model.proofs.Keeps.{all_keep, reached}
-use Rattle.ele_model.specs.AlwaysWellFormed.{AlwaysWellFormed, StepKeepsWellFormed}
+use Rattle.ele_model.specs.AlwaysWellFormed.{AlwaysWellFormed, StepKeepsWellFormed, WellFormedInFreshRuns}
 
 -- the law of one step
 pub step_keeps : (w : World) (event : Event) → IsEvent event → HasParts w → HasParts ((step w event).1)
@@ -18,14 +18,13 @@ pub run_keeps : (w : World) (events : List Event) → AllByRecursion IsEvent eve
 run_keeps w [] all k = k
 run_keeps w (event ∷ events) all k = run_keeps ((step w event).1) events all.1 (step_keeps w event all.0 k)
 
--- so each world of a run has its parts
-pub run_has : PoliciesAreLawful → (limits : Bounds) (events : List Event) → AreBounds limits → AllByRecursion IsEvent events → HasParts (run_of (fresh_world limits) events)
-run_has law limits events bounds are = run_keeps (fresh_world limits) events are (in_parts law (fresh_world limits) (fresh_is limits bounds))
-
--- ---- both laws
+-- ---- the laws
 
 pub step_keeps_well_formed : PoliciesAreLawful → StepKeepsWellFormed
 step_keeps_well_formed law w event is k = well_formed ((step w event).1) (step_keeps w event is (in_parts law w k))
 
 pub always_well_formed : PoliciesAreLawful → AlwaysWellFormed
-always_well_formed law limits events bounds are = well_formed (run_of (fresh_world limits) events) (run_has law limits events bounds are)
+always_well_formed law start events formed are = well_formed (run_of start events) (run_keeps start events are (in_parts law start formed))
+
+pub well_formed_in_fresh_runs : PoliciesAreLawful → WellFormedInFreshRuns
+well_formed_in_fresh_runs law limits events bounds are = always_well_formed law (fresh_world limits) events (fresh_is limits bounds) are

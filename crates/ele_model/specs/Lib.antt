@@ -22,6 +22,8 @@ pub mod NewPlaces
 pub mod NoIdleStays
 pub mod NothingChanges
 pub mod NumbersRise
+pub mod OneContent
+pub mod OneTree
 pub mod Parts
 pub mod Pass
 pub mod Plan
@@ -34,6 +36,7 @@ pub mod RipeMoments
 pub mod RipeRows
 pub mod Run
 pub mod Scan
+pub mod Start
 pub mod Step
 pub mod Tagged
 pub mod Told
@@ -45,3 +48,4 @@ pub mod WellFormed
 pub mod Whole
 pub mod Why
 pub mod World
+pub mod Writers

@@ -15,6 +15,12 @@ HasNoIdle w = AllByRecursion (λ row. is_idle w row.id ≡ false) w.files
 abbrev pub NoIdleStays : Type 0
 NoIdleStays = (w : World) (event : Event) → IsWellFormed w → HasNoIdle w → HasNoIdle ((step w event).1)
 
+-- from any well-formed world that has no idle file
 abbrev pub NoIdleStaysInRuns : Type 0
 NoIdleStaysInRuns =
+    (start : World) (events : List Event) → IsWellFormed start → HasNoIdle start → AllByRecursion IsEvent events → HasNoIdle (run_of start events)
+
+-- and so from the fresh one
+abbrev pub NoIdleStaysInFreshRuns : Type 0
+NoIdleStaysInFreshRuns =
     (limits : Bounds) (events : List Event) → AreBounds limits → AllByRecursion IsEvent events → HasNoIdle (run_of (fresh_world limits) events)

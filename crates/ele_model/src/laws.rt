@@ -1,16 +1,17 @@
 //! The laws that crates of the program call. Each is the contract of a function that does nothing;
 //! the other laws are in `ele_world`.
-ghost use Rattle.ele_model.specs.AlwaysWellFormed.{FreshIsWellFormed, StepKeepsWellFormed, AlwaysWellFormed};
+ghost use Rattle.ele_model.specs.AlwaysWellFormed.{AlwaysWellFormed, StepKeepsWellFormed, WellFormedInFreshRuns};
 ghost use Rattle.ele_model.specs.NumbersRise.{NumbersRise};
 ghost use Rattle.ele_model.specs.ReadersStay.{ReadersStay};
+ghost use Rattle.ele_model.specs.Start.{FreshIsStart};
 ghost use Rattle.ele_model.specs.UsageFits.{UsageFits};
 
 use ele_policy::laws;
 
-/// The fresh world is well formed.
-#[tactic(auto, using(crate::proofs::StepKeeps::fresh_is))]
+/// A run may begin in the fresh world: it is well formed, and has what every event leaves so.
+#[tactic(auto, using(crate::proofs::Reached::fresh_is_start))]
 pub fn fresh_is_well_formed()
-    ensures { FreshIsWellFormed }
+    ensures { FreshIsStart }
 {}
 
 /// An event leaves a well-formed world well formed.
@@ -21,10 +22,12 @@ pub fn step_keeps_well_formed()
     laws::policies_are_lawful();
 }
 
-/// After any list of events the world is well formed.
-#[tactic(auto, using(crate::proofs::StepKeeps::always_well_formed))]
+/// After any list of events a well-formed world is well formed, and so each world of a run from the
+/// fresh world is.
+#[tactic(auto, using(crate::proofs::StepKeeps::always_well_formed, crate::proofs::StepKeeps::well_formed_in_fresh_runs))]
 pub fn always_well_formed()
-    ensures { AlwaysWellFormed }
+    ensures runs { AlwaysWellFormed }
+    ensures fresh { WellFormedInFreshRuns }
 {
     laws::policies_are_lawful();
 }

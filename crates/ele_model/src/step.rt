@@ -45,10 +45,10 @@ pub trait Step: Drop {
     fn flat(&self) -> Result<Flat, NoMemory>
         ensures { IfOk result (λ flat. flat ≡ world self.now) };
 
-    /// Returns the current moment. Its contract also says that events led to the world, from the
-    /// fresh world of limits that are allowed. So the headline holds of its next event, and the laws
-    /// of this crate hold. Three of them are clauses too: the world is well formed, its limits are
-    /// allowed, and each file has a live name, a held version or a draft.
+    /// Returns the current moment. Its contract also says that events led to the world, from one
+    /// that a run may begin in, such as the fresh world. So the headline holds of its next event,
+    /// and the laws of this crate hold. Three of them are clauses too: the world is well
+    /// formed, its limits are allowed, and each file has a live name, a held version or a draft.
     fn now(&self) -> Moment
         ensures value { result ≡ (world self.now).now }
         ensures reached { IsReached (world self.now) }

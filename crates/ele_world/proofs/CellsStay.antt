@@ -2,7 +2,7 @@
 use Rattle.ele_model.proofs.Basics.{rules, nat_tests, arith, ◌≡◌, ℕ, ◌-◌, ◌<◌, cond, Bool, true, false, List, [], ◌∷◌, Some, sym, find, AllByRecursion, AllLater, update_first, insert_before, all-both, all-found, all-insert_before, all-remove_first, all-update_first, all-weaker, found_passes}
 use Rattle.ele_model.proofs.Words.{World, Cell, HasParts, Drafts, Versions, DropIdle, EndDraft, ShutHandle, Take, after_change, is_draft_after, is_live, is_version_after, with_end, with_version, without_name, version_cells, ended_at, is_draft, is_version, new_draft, next_of, plan, step}
 use Rattle.ele_world.proofs.Words.{Event, Close, Abandon, CleanOne, Read, Create, Undelete, Unlink, OpenWrite, Save, Revert, Restore, Write, Truncate, DraftRow, VersionRow, Reads, Draft, Version}
-use Rattle.ele_world.specs.OneContent.{file_read}
+use Rattle.ele_model.specs.OneContent.{file_read}
 use Rattle.ele_path.specs.declared.tagged.Tag.TheVariants as tag
 use Rattle.ele_model.specs.Change.{ended_if_nameless, next_version}
 use Rattle.ele_model.specs.Step.{cells_read}

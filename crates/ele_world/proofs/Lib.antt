@@ -42,3 +42,4 @@ pub mod ReadsStill
 pub mod Writing
 pub mod OneTree
 pub mod NoneInItself
+pub mod Runs

@@ -2,7 +2,7 @@
 use Rattle.ele_model.proofs.Basics.{nat_tests, arith, ◌≡◌, ℕ, suc, zero, ◌+◌, true, false, List, [], ◌∷◌, Option, option_map_or, Some, None, Ok, Err, refl, ap, find, length, AllByRecursion, AllLater, list_any, all-found, any-found, false≢true, true≢false, found_passes}
 use Rattle.ele_model.proofs.Words.{AreOthers, is_live_directory, is_live_name, live_target, root, walk}
 use Rattle.ele_world.proofs.Words.{NoEntry, NameRow, Target, File, Directory}
-use Rattle.ele_world.specs.OneTree.{Hangs, IsOneTree, hangs_by}
+use Rattle.ele_model.specs.OneTree.{Hangs, IsOneTree, hangs_by}
 use Rattle.ele_lists.proofs.Cuts.{any-found as first_passing}
 use Rattle.ele_world.proofs.OneTree.{is_under, above, below, IsOther}
 use Rattle.ele_model.proofs.Walks.{live_row}

@@ -2,7 +2,7 @@
 use Rattle.ele_model.proofs.Basics.{nat_tests, arith, ◌≡◌, ℕ, ◌+◌, ◌-◌, ◌<◌, ◌≤◌, ◌==◌, ◌∙◌, ◌⊎◌, length, Bool, true, false, List, [], ◌∷◌, Some, refl, subst, sym, AllByRecursion, update_first, inl, inr, slice_get, all-found, all-none, found_passes, find-insert_before, find-update_other, not_found, option_map_or}
 use Rattle.ele_model.proofs.Words.{World, IsEvent, Cell, Policy, HasParts, Drafts, Versions, Append, MakeFile, Revive, WriteDraft, TruncateDraft, after_change, AreWrittenBy, IsContent, cells_by, content_of, changed_by, default_of, ended_at, fitted_by, has_draft, is_draft, is_version, is_version_after, next_of, next_version, plan, run_of, save_new_plan, step, version_cells, with_end, with_file, with_name, with_version}
 use Rattle.ele_world.proofs.Words.{Event, Save, Restore, Write, Truncate, DraftRow, VersionRow, Reads, Draft, Version, File}
-use Rattle.ele_world.specs.OneContent.{file_read, Agree, HasOneContent}
+use Rattle.ele_model.specs.OneContent.{file_read, Agree, HasOneContent}
 use Rattle.ele_lists.proofs.Alls.{all-got}
 use Rattle.ele_model.specs.Step.{cells_read}
 use Rattle.ele_model.proofs.Allowed.{allowed}

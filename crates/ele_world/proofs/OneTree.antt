@@ -3,7 +3,7 @@ use Rattle.ele_model.proofs.Basics.{rules, nat_tests, arith, ◌≡◌, ℕ, suc
 use Rattle.ele_model.proofs.Words.{World, IsEvent, ShutHandle, EndDraft, Take, HasParts, DropIdle, after_change, born_row, content_of, dies, is_live_directory, is_live_in, is_live_name, is_target_directory, last_target, is_named, live_target, parent_now, plan, root, run_of, save_new_plan, step, walk, walk_now}
 use Rattle.ele_model.specs.declared.event.Event.TheVariants.{RemoveDir}
 use Rattle.ele_world.proofs.Words.{Event, MakeDir, Create, Link, Unlink, Undelete, Rename, Close, Abandon, Save, Restore, CleanOne, Read, NameRow, Target, File, Directory}
-use Rattle.ele_world.specs.OneTree.{Hangs, IsOneTree, hangs_by}
+use Rattle.ele_model.specs.OneTree.{Hangs, IsOneTree, hangs_by}
 use Rattle.ele_lists.proofs.Cuts.{any-found as first_passing}
 use Rattle.ele_model.proofs.Dropped.{dropped, stays_named}
 use Rattle.ele_model.proofs.PlanOutcomes.{AfterAll, in_all}

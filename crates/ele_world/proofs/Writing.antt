@@ -2,7 +2,7 @@
 use Rattle.ele_model.proofs.Basics.{rules, nat_tests, arith, ◌≡◌, ℕ, ◌+◌, ◌==◌, not, Bool, true, false, List, [], ◌∷◌, ◌++◌, Some, None, Ok, refl, find, AllByRecursion, list_any, update_first, remove_first, insert_before, list_any-append, list_any-remove_first, all-both, all-insert_before, all-not_found, all-remove_first, all-update_first, all-weaker, filter-passes, not-true, remove_first-key}
 use Rattle.ele_model.proofs.Words.{World, IsEvent, HasParts, Drafts, DropIdle, EndDraft, ShutHandle, Take, after_change, draft_read, is_draft, is_draft_after, is_handle, is_writer, new_draft, plan, reads_by, run_of, step, writes}
 use Rattle.ele_world.proofs.Words.{Event, Close, Abandon, CleanOne, Read, OpenWrite, DraftRow, HandleRow, Reads, Draft}
-use Rattle.ele_world.specs.DraftsWritten.{HaveWriters}
+use Rattle.ele_model.specs.Writers.{HaveWriters}
 use Rattle.ele_model.proofs.Dropped.{dropped}
 use Rattle.ele_model.proofs.KeptDrafts.{same_file}
 use Rattle.ele_model.proofs.PlanOutcomes.{AfterAll, in_all}

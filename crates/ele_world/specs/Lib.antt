@@ -20,6 +20,7 @@ pub mod Schedule
 pub mod PastStays
 pub mod LifeStays
 pub mod OtherNamesStay
+pub mod StartStays
 pub mod UndeleteTakes
 pub mod CountsPlaces
 pub mod OneContent

@@ -1,38 +1,26 @@
--- In every run a place has one content. What one version wrote into a slot of a file is the same in the draft and in each version that has
--- it. So it may be one block.
-use Rattle.std.specs.Prelude.{◌≡◌, ℕ, List, Some, slice_get}
+-- In every run a place has one content.
+use Rattle.std.specs.Prelude.{List}
 use Rattle.std.specs.List.{AllByRecursion}
-use Rattle.ele_content.specs.declared.cell.Cell.{Cell}
 use Rattle.ele_model.specs.Bounds.{Bounds, AreBounds}
 use Rattle.ele_model.specs.declared.event.Event.{Event}
-use Rattle.ele_model.specs.declared.rows.Reads.{Reads}
-use Rattle.ele_model.specs.declared.rows.Reads.TheVariants.{Draft, Version}
+use Rattle.ele_model.specs.OneContent.{HasOneContent}
 use Rattle.ele_model.specs.Run.{run_of, IsEvent}
-use Rattle.ele_model.specs.Step.{step, cells_read}
+use Rattle.ele_model.specs.Step.{step}
 use Rattle.ele_model.specs.WellFormed.{IsWellFormed}
 use Rattle.ele_model.specs.World.{World, fresh_world}
-
-abbrev pub file_read : Reads → ℕ
-file_read (Draft file) = file
-file_read (Version file number) = file
-
--- if one version wrote a slot of both, the slot has the same bytes in both
-abbrev pub Agree : List Cell → List Cell → Type 0
-Agree cells others =
-    (slot : ℕ) (cell other : Cell) → slice_get cells slot ≡ Some cell
-    → slice_get others slot ≡ Some other → cell.writer ≡ other.writer → cell.bytes ≡ other.bytes
-
--- any two contents of one file agree, of held versions or of its draft; one that isn't there has no cells
-abbrev pub HasOneContent : World → Type 0
-HasOneContent w =
-    (one other : Reads) → file_read one ≡ file_read other
-    → Agree (cells_read w one) (cells_read w other)
 
 abbrev pub OneContentStays : Type 0
 OneContentStays =
     (w : World) (event : Event) → IsWellFormed w → HasOneContent w → HasOneContent ((step w event).1)
 
+-- from any well-formed world that has it
 abbrev pub OneContentInRuns : Type 0
 OneContentInRuns =
+    (start : World) (events : List Event) → IsWellFormed start → HasOneContent start → AllByRecursion IsEvent events
+    → HasOneContent (run_of start events)
+
+-- and so from the fresh one
+abbrev pub OneContentInFreshRuns : Type 0
+OneContentInFreshRuns =
     (limits : Bounds) (events : List Event) → AreBounds limits → AllByRecursion IsEvent events
     → HasOneContent (run_of (fresh_world limits) events)

@@ -6,8 +6,9 @@ ghost use Rattle.ele_world.specs.CloseKeeps.{CloseKeeps};
 ghost use Rattle.ele_world.specs.CreateLeads.{CreateLeads};
 ghost use Rattle.ele_world.specs.LinkLeads.{LinkLeads};
 ghost use Rattle.ele_world.specs.MakeDirLeads.{MakeDirLeads};
-ghost use Rattle.ele_model.specs.NoIdleStays.{NoIdleStays, NoIdleStaysInRuns};
+ghost use Rattle.ele_model.specs.NoIdleStays.{NoIdleStays, NoIdleStaysInFreshRuns, NoIdleStaysInRuns};
 ghost use Rattle.ele_world.specs.RemoveDirEnds.{RemoveDirEnds};
+ghost use Rattle.ele_world.specs.StartStays.{ReachedIsStart, StartStays};
 ghost use Rattle.ele_model.specs.NothingChanges.{RefusedStays, AskingStays};
 ghost use Rattle.ele_world.specs.MarkedRipens.{MarkedRipens};
 ghost use Rattle.ele_world.specs.MarkedStays.{MarkedStays};
@@ -29,8 +30,8 @@ pub mod past;
 pub mod tree;
 
 pub use ele_headline::{
-    headline, held_stays, only_due_leave, pass_leaves_kept, reads_as_closed,
-    reads_as_closed_in_runs,
+    headline, headline_in_fresh_runs, held_stays, only_due_leave, pass_leaves_kept,
+    reads_as_closed, reads_as_closed_in_runs,
 };
 pub use ele_model::laws::{
     always_well_formed, fresh_is_well_formed, readers_stay, step_keeps_well_formed, usage_fits,
@@ -116,10 +117,22 @@ pub fn no_idle_stays()
     laws::policies_are_lawful();
 }
 
-/// After any list of events each file has one of them.
-#[tactic(auto, using(ele_model::proofs::NoIdle::runs_have_none, ele_model::proofs::StepKeeps::fresh_is, ele_model::proofs::Formed::in_parts, ele_model::proofs::Words::fresh_world))]
+/// After any list of events each file has one of them, if each had one before them. So it has in
+/// every run from the fresh world.
+#[tactic(auto, using(crate::proofs::Runs::no_idle, crate::proofs::Runs::no_idle_fresh))]
 pub fn no_idle_stays_in_runs()
-    ensures { NoIdleStaysInRuns }
+    ensures runs { NoIdleStaysInRuns }
+    ensures fresh { NoIdleStaysInFreshRuns }
+{
+    laws::policies_are_lawful();
+}
+
+/// An event leaves a world that a run may begin in such a world. So is each world that events lead
+/// to from one, and each core can be made again of its rows.
+#[tactic(auto, using(crate::proofs::Runs::start_stays))]
+pub fn start_stays()
+    ensures step { StartStays }
+    ensures reached { ReachedIsStart }
 {
     laws::policies_are_lawful();
 }

@@ -1,9 +1,9 @@
 //! What every event leaves of the past, of other names, and of all counts. Each law is the contract
 //! of a function that does nothing.
-ghost use Rattle.ele_world.specs.DraftsWritten.{DraftsWritten, DraftsWrittenInRuns};
+ghost use Rattle.ele_world.specs.DraftsWritten.{DraftsWritten, DraftsWrittenInFreshRuns, DraftsWrittenInRuns};
 ghost use Rattle.ele_world.specs.LifeStays.{LifeStays};
 ghost use Rattle.ele_world.specs.NameRowsStay.{NameRowsStay};
-ghost use Rattle.ele_world.specs.OneContent.{OneContentStays, OneContentInRuns};
+ghost use Rattle.ele_world.specs.OneContent.{OneContentInFreshRuns, OneContentInRuns, OneContentStays};
 ghost use Rattle.ele_world.specs.OtherNamesStay.{OtherNamesStay};
 ghost use Rattle.ele_world.specs.PastStays.{PastStays};
 ghost use Rattle.ele_world.specs.ReadsPast.{ReadsPast};
@@ -54,10 +54,12 @@ pub fn drafts_written()
     laws::policies_are_lawful();
 }
 
-/// After any list of events a handle writes each draft.
-#[tactic(auto, using(crate::proofs::Writing::runs_have_writers, ele_model::proofs::StepKeeps::fresh_is, ele_model::proofs::Formed::in_parts, ele_model::proofs::Words::fresh_world))]
+/// After any list of events a handle writes each draft, if one wrote each before them. So one does
+/// in every run from the fresh world.
+#[tactic(auto, using(crate::proofs::Runs::writers, crate::proofs::Runs::writers_fresh))]
 pub fn drafts_written_in_runs()
-    ensures { DraftsWrittenInRuns }
+    ensures runs { DraftsWrittenInRuns }
+    ensures fresh { DraftsWrittenInFreshRuns }
 {
     laws::policies_are_lawful();
 }
@@ -70,10 +72,12 @@ pub fn one_content_stays()
     laws::policies_are_lawful();
 }
 
-/// After any list of events it is the same in all of them.
-#[tactic(auto, using(crate::proofs::OneContent::runs_have_one, ele_model::proofs::StepKeeps::fresh_is, ele_model::proofs::Formed::in_parts, ele_model::proofs::Words::fresh_world))]
+/// After any list of events it is the same in all of them, if it was before them. So it is in every
+/// run from the fresh world.
+#[tactic(auto, using(crate::proofs::Runs::one_content, crate::proofs::Runs::one_content_fresh))]
 pub fn one_content_in_runs()
-    ensures { OneContentInRuns }
+    ensures runs { OneContentInRuns }
+    ensures fresh { OneContentInFreshRuns }
 {
     laws::policies_are_lawful();
 }

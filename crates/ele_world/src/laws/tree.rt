@@ -1,5 +1,5 @@
 //! How live names form a tree. Each law is the contract of a function that does nothing.
-ghost use Rattle.ele_world.specs.OneTree.{NoneInItself, OneTree, OneTreeInRuns};
+ghost use Rattle.ele_world.specs.OneTree.{NoneInItself, OneTree, OneTreeInFreshRuns, OneTreeInRuns};
 
 use ele_policy::laws;
 
@@ -11,10 +11,12 @@ pub fn one_tree()
     laws::policies_are_lawful();
 }
 
-/// After any list of events the live names are one tree.
-#[tactic(auto, using(crate::proofs::OneTree::runs_are, ele_model::proofs::StepKeeps::fresh_is, ele_model::proofs::Formed::in_parts, ele_model::proofs::Words::fresh_world))]
+/// After any list of events the live names are one tree, if they were before them. So they are in
+/// every run from the fresh world.
+#[tactic(auto, using(crate::proofs::Runs::one_tree, crate::proofs::Runs::one_tree_fresh))]
 pub fn one_tree_in_runs()
-    ensures { OneTreeInRuns }
+    ensures runs { OneTreeInRuns }
+    ensures fresh { OneTreeInFreshRuns }
 {
     laws::policies_are_lawful();
 }
