@@ -13,3 +13,8 @@ pub mod Closes
 pub mod Lemmas
 pub mod Newer
 pub mod Reading
+pub mod Sharing
+pub mod Making
+pub mod Begun
+pub mod Flat
+pub mod Added

@@ -7,3 +7,5 @@ pub mod Met
 pub mod FileHead
 pub mod Beside
 pub mod Copied
+pub mod Adding
+pub mod Making

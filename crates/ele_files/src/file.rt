@@ -1,13 +1,17 @@
 //! One file.
 //! A contract sees its number, its policy, its next version's number, and the rows of its log.
-ghost use Rattle.std.specs.Prelude.{◌≡◌, ◌<◌, ◌≤◌, ◌+◌, ◌^◌, []};
+ghost use Rattle.std.specs.Prelude.{◌≡◌, ◌<◌, ◌≤◌, ◌+◌, ◌^◌, [], ◌∷◌, ◌++◌, OnOk};
 ghost use Rattle.std.specs.List.{AllByRecursion};
+ghost use Rattle.std.specs.Option.{ForSome};
+ghost use Rattle.ele_files.specs.Adding.{logged};
 ghost use Rattle.ele_files.specs.Appending.{IsRowPast, HasRows, HasAppended, ended_rows, next_row};
 ghost use Rattle.ele_files.specs.Inside.{IsFileKept};
+ghost use Rattle.ele_inode_log.specs.Rows.{EndsInTime, Precedes, last_of};
 
 use ele_blocks::BlockMap;
 use ele_inode_log::{InodeLog, Meter, VersionRow};
-use ele_moment::{FileId, Moment, VersionNo};
+use ele_model::VersionRow as FlatVersion;
+use ele_moment::{FileId, Moment, NoMemory, VersionNo};
 use ele_policy::Policy;
 
 /// A new version of a file: its number, and its length in bytes.
@@ -78,5 +82,25 @@ impl File {
         }
         self.next = number.after();
         NewVersion { number, length }
+    }
+    /// Appends a version that is given as a row, with the map of its content.
+    pub fn push(&mut self, row: &FlatVersion, cells: BlockMap) -> Result<(), NoMemory>
+        requires last { ForSome (last_of self.old.log.rows)
+            (λ last. Precedes last (logged row.now cells)) }
+        requires ends { EndsInTime (logged row.now cells) }
+        ensures { OnOk result (HasRows self.old self.new
+            (self.old.log.rows ++ logged row.now cells ∷ [])) }
+    {
+        let row = VersionRow {
+            number: row.number,
+            opened: row.opened,
+            closed: row.closed,
+            ended: row.ended,
+            cells,
+        };
+        match self.log.append(row) {
+            Ok(()) => Ok(()),
+            Err(_refused) => Err(NoMemory),
+        }
     }
 }
