@@ -14,7 +14,7 @@ macro_rules! taken {
 }
 
 mod checkpoint;
-pub mod coded;
+mod coded;
 mod content;
 mod draft;
 mod fault;

@@ -8,6 +8,8 @@ pub mod NumberSets
 pub mod Searches
 -- the lives of a name, one after another
 pub mod NameLives
+-- walks up to the root
+pub mod Climbs
 -- versions one after the other
 pub mod Placed
 -- current versions
@@ -18,5 +20,9 @@ pub mod Contents
 pub mod KnownBytes
 -- numbers that rise
 pub mod Rising
+-- contents that are read, and those of rows
+pub mod OneContent
 -- all parts together
-pub mod Whole
+pub mod Start
+-- a fault, and no world
+pub mod NoStart

@@ -1,6 +1,6 @@
 -- Numbers as a set: what is in it, of rows that give numbers.
 use Rattle.ele_well_formed.proofs.Rows.{IsAt, any_before, later_more, none_passes, there}
-use Rattle.ele_well_formed.proofs.Words.{AllLater, AreOthers, IsMisplaced, all-any, all-weaker, take, true, ◌+◌, List, NameRow, None, Option, Some, VersionRow, [], Bool, arith, directory_in, endless, false, filter_map, is_endless, is_live_directory, is_live_name_of, is_name_of_directory, is_version_of, list_any, live_directory, live_file, map, nat_tests, option_map_or, refl, ℕ, ◌==◌, ◌∷◌, ◌≡◌}
+use Rattle.ele_well_formed.proofs.Words.{AllLater, AreOthers, HandleRow, IsMisplaced, all-any, all-weaker, take, true, ◌+◌, List, NameRow, None, Option, Some, VersionRow, [], Bool, arith, directory_in, endless, false, file_written, filter_map, is_endless, is_live_directory, is_live_name_of, is_name_of_directory, is_version_of, is_writer, list_any, live_directory, live_file, map, nat_tests, option_map_or, refl, ℕ, ◌==◌, ◌∷◌, ◌≡◌}
 
 -- a number is among those of the rows if it is that of some row
 any_filter_map : {X : Type 0} (f : X → Option ℕ) (p : X → Bool) (q : ℕ) (xs : List X) → ((x : X) → option_map_or (λ n. n == q) (f x) false ≡ p x) → list_any (λ n. n == q) (filter_map f xs) ≡ list_any p xs
@@ -15,6 +15,9 @@ live_directories_are names q = any_filter_map live_directory (is_live_directory 
 
 pub live_files_are : (names : List NameRow) (q : ℕ) → list_any (λ n. n == q) (filter_map live_file names) ≡ list_any (is_live_name_of q) names
 live_files_are names q = any_filter_map live_file (is_live_name_of q) q names (λ row. grind (arith, nat_tests))
+
+pub written_files_are : (handles : List HandleRow) (q : ℕ) → list_any (λ n. n == q) (filter_map (λ (row : HandleRow). file_written row.reads) handles) ≡ list_any (is_writer q) handles
+written_files_are handles q = any_filter_map (λ (row : HandleRow). file_written row.reads) (is_writer q) q handles (λ row. grind (arith, nat_tests))
 
 pub endless_files_are : (versions : List VersionRow) (q : ℕ) → list_any (λ n. n == q) (filter_map endless versions) ≡ list_any (is_endless q) versions
 endless_files_are versions q = any_filter_map endless (is_endless q) q versions (λ row. grind (arith, nat_tests))

@@ -27,11 +27,12 @@ pub use Rattle.ele_model.specs.FileView.{is_version_of}
 pub use Rattle.ele_model.specs.NameRows.{is_live_directory, is_name_of_directory, is_named, is_target_directory}
 pub use Rattle.ele_model.specs.NoIdleStays.{HasNoIdle}
 pub use Rattle.ele_model.specs.WellFormed.{AreApart, AreNames, AreOthers, ArePlaced, AreVersions, HaveCurrent, IsContent, IsNameRow, IsThere, IsVersion, IsWellFormed, has_directory, is_current}
-pub use Rattle.ele_model.specs.World.{World, is_directory, is_draft, is_file, is_live, is_live_name_of, is_target_file, is_version, is_version_after, next_of}
+pub use Rattle.ele_model.specs.World.{World, is_directory, is_draft, is_file, is_live, is_live_name_of, is_target_file, is_version, is_version_after, is_writer, next_of, root}
 pub use Rattle.ele_model.specs.declared.rows.DirectoryRow.{DirectoryRow}
 pub use Rattle.ele_model.specs.declared.rows.DraftRow.{DraftRow}
 pub use Rattle.ele_model.specs.declared.rows.FileRow.{FileRow}
 pub use Rattle.ele_model.specs.declared.rows.GroupRow.{GroupRow}
+pub use Rattle.ele_model.specs.declared.rows.HandleRow.{HandleRow}
 pub use Rattle.ele_model.specs.declared.rows.HandleRow.{HandleRow}
 pub use Rattle.ele_model.specs.declared.rows.MarkRow.{MarkRow}
 pub use Rattle.ele_model.specs.declared.rows.NameRow.{NameRow}
@@ -39,5 +40,5 @@ pub use Rattle.ele_model.specs.declared.rows.Target.{Target}
 pub use Rattle.ele_model.specs.declared.rows.Target.TheVariants.{Directory, File}
 pub use Rattle.ele_model.specs.declared.rows.VersionRow.{VersionRow}
 pub use Rattle.ele_well_formed.specs.Fault.{CountsHold, DirectoriesHold, HasContents, HasCurrent, HasLives, HasNames, HasNumbered, IsDirectory, IsNamed}
-pub use Rattle.ele_well_formed.specs.Means.{AreMarks, AreMembers, AreMoments, AreNamesApart, IsDeadBy, IsLife, IsMark, IsNumbered, IsSpan, directory_in, endless, file_in, is_before, is_endless, live_directory, live_file}
+pub use Rattle.ele_well_formed.specs.Means.{AreMarks, AreMembers, AreMoments, AreNamesApart, IsDeadBy, IsLife, IsMark, IsNumbered, IsSpan, directory_in, endless, file_in, file_written, is_before, is_endless, live_directory, live_file}
 pub use Rattle.ele_well_formed.specs.Wrong.{IsMisplaced, IsWrong}

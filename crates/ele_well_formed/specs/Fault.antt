@@ -1,28 +1,26 @@
--- What a world of a run has, and what the first fault of rows says of those that are none. The faults have an order: before each the parts
--- hold that come first.
-use Rattle.std.specs.Prelude.{◌≡◌, ℕ, ◌<◌, ◌≤◌, ◌==◌, ◌||◌, true, false, List, length, ◌⊎◌}
-use Rattle.std.specs.List.{list_any}
+-- What the first fault says of rows that are no world that a run may begin in. The faults have an order: before each the parts hold that
+-- come first.
+use Rattle.std.specs.Prelude.{◌≡◌, ℕ, ◌<◌, ◌≤◌, ◌==◌, ◌||◌, true, false, List, None, length, ◌⊎◌}
+use Rattle.std.specs.List.{AllByRecursion, list_any}
 use Rattle.std.specs.Str.{bytes_eq}
 use Rattle.ele_lists.specs.Lists.{AllLater}
 use Rattle.ele_policy.specs.Policy.{IsPolicy}
 use Rattle.ele_model.specs.Change.{is_idle}
 use Rattle.ele_model.specs.NameRows.{is_name_of_directory}
 use Rattle.ele_model.specs.NoIdleStays.{HasNoIdle}
-use Rattle.ele_model.specs.WellFormed.{AreApart, AreCounted, AreDirectories, AreDrafts, AreFiles, AreGroups, AreHandles, AreHeldRead, AreHoused, AreNames, AreOthers, ArePlaced, AreVersions, HaveCurrent, HaveEnded, IsDraft, IsFile, IsGroup, IsHandle, IsHeldRead, IsHoused, IsNameRow, IsOfLive, IsVersion, IsWellFormed, is_current}
-use Rattle.ele_model.specs.World.{World, is_directory, is_live, next_of, root}
+use Rattle.ele_model.specs.OneTree.{Hangs, IsOneTree}
+use Rattle.ele_model.specs.WellFormed.{AreApart, AreCounted, AreDirectories, AreDrafts, AreFiles, AreGroups, AreHandles, AreHeldRead, AreHoused, AreNames, AreOthers, ArePlaced, AreVersions, HaveCurrent, HaveEnded, IsDraft, IsFile, IsGroup, IsHandle, IsHeldRead, IsHoused, IsNameRow, IsOfLive, IsVersion, is_current}
+use Rattle.ele_model.specs.World.{World, is_directory, is_live, is_writer, next_of, root}
+use Rattle.ele_model.specs.Writers.{HaveWriters}
 use Rattle.ele_model.specs.declared.rows.DirectoryRow.{DirectoryRow}
+use Rattle.ele_model.specs.declared.rows.DraftRow.{DraftRow}
 use Rattle.ele_model.specs.declared.rows.FileRow.{FileRow}
+use Rattle.ele_model.specs.declared.rows.HandleRow.{HandleRow}
 use Rattle.ele_model.specs.declared.rows.NameRow.{NameRow}
 use Rattle.ele_well_formed.specs.Wrong.{IsMisplaced, IsWrong}
-use Rattle.ele_well_formed.specs.Sharing.{AreShared, IsSharing, contents}
+use Rattle.ele_well_formed.specs.Sharing.{AreShared, contents}
 use Rattle.ele_well_formed.specs.declared.fault.FlatFault.{FlatFault}
 use Rattle.ele_well_formed.specs.declared.fault.FlatFault.TheVariants as fault
-
--- what is true of every world of a run: it is well formed, no file is idle, and cells of one place share one block
-pub record IsWhole (w : World) : Type 0 where
-  pub formed : IsWellFormed w
-  pub busy : HasNoIdle w
-  pub shared : IsSharing w
 
 -- ---- the parts, in groups
 
@@ -50,6 +48,7 @@ pub record HasNames (w : World) : Type 0 where
   pub names : NamesHold w
   pub homes : AreHoused w.directories w.names
   pub tree : AllLater AreOthers w.names
+  pub rooted : IsOneTree w.names
 
 -- and the versions, the drafts and the handles
 pub record HasContents (w : World) : Type 0 where
@@ -58,6 +57,7 @@ pub record HasContents (w : World) : Type 0 where
   pub drafts : AreDrafts w.files w.now w.drafts
   pub handles : AreHandles w.made.handles w.drafts w.handles
   pub readers : AreHeldRead w.versions w.handles
+  pub writers : HaveWriters w
 
 -- and what ties files, names and contents
 pub record HasLives (w : World) : Type 0 where
@@ -86,6 +86,18 @@ IsEither Fits Stand rows at = IsWrong Fits rows at ⊎ IsMisplaced Stand rows at
 abbrev pub IsNamed : List NameRow → DirectoryRow → Type 0
 IsNamed names row = ((row.id == root) || list_any (is_name_of_directory row.id) names) ≡ true
 
+-- the name doesn't mean the root
+abbrev pub IsBelow : NameRow → Type 0
+IsBelow row = is_name_of_directory root row ≡ false
+
+-- if the name is live, live names lead from the root to its directory
+abbrev pub IsHung : List NameRow → NameRow → Type 0
+IsHung names row = row.death ≡ None → Hangs names row.directory
+
+-- a handle writes the draft
+abbrev pub IsWritten : List HandleRow → DraftRow → Type 0
+IsWritten handles draft = list_any (is_writer draft.file) handles ≡ true
+
 -- if the file is live, its last version is held without an end
 abbrev pub HasCurrent : World → FileRow → Type 0
 HasCurrent w row = is_live w row.id ≡ true → list_any (is_current row.id (next_of w.files row.id)) w.versions ≡ true
@@ -112,6 +124,11 @@ HasFault w (fault.Nameless at) = IsFault (HasNumbered w × NamesHold w)
     (IsWrong (IsNamed w.names) w.directories at)
 HasFault w (fault.Tree at) = IsFault (HasNumbered w × NamesHold w × AreHoused w.directories w.names)
     (IsMisplaced AreOthers w.names at)
+HasFault w (fault.RootName at) = IsFault (HasNumbered w × NamesHold w × AreHoused w.directories w.names × AllLater AreOthers w.names)
+    (IsWrong IsBelow w.names at)
+-- the row of a live name whose directory is in itself, at some depth
+HasFault w (fault.Cycle at) = IsFault (HasNumbered w × NamesHold w × AreHoused w.directories w.names × AllLater AreOthers w.names × AllByRecursion IsBelow w.names)
+    (IsWrong (IsHung w.names) w.names at)
 HasFault w (fault.Versions at) = IsFault (HasNames w)
     (IsEither (IsVersion w.files w.now) ArePlaced w.versions at)
 HasFault w (fault.Drafts at) = IsFault (HasNames w × AreVersions w.files w.now w.versions)
@@ -121,6 +138,9 @@ HasFault w (fault.Handles at) = IsFault (HasNames w × AreVersions w.files w.now
 -- the row of a handle
 HasFault w (fault.Readers at) = IsFault (HasNames w × AreVersions w.files w.now w.versions × AreDrafts w.files w.now w.drafts × AreHandles w.made.handles w.drafts w.handles)
     (IsWrong (λ row. IsHeldRead w.versions row.reads) w.handles at)
+-- the row of a draft
+HasFault w (fault.Writers at) = IsFault (HasNames w × AreVersions w.files w.now w.versions × AreDrafts w.files w.now w.drafts × AreHandles w.made.handles w.drafts w.handles × AreHeldRead w.versions w.handles)
+    (IsWrong (IsWritten w.handles) w.drafts at)
 -- the row of a live file
 HasFault w (fault.Current at) = IsFault (HasContents w) (IsWrong (HasCurrent w) w.files at)
 -- the row of a version

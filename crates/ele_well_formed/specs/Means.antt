@@ -1,13 +1,19 @@
 -- What a name row means, and the lives of one name. No public clause cites this module.
-use Rattle.std.specs.Prelude.{◌≡◌, ℕ, ◌≤◌, ◌<◌, ◌+◌, Bool, false, cond, ◌==◌, ◌&&◌, ◌||◌, nat_lt, List, Option, Some, None, IfSome, is_none, is_some}
+use Rattle.std.specs.Prelude.{◌≡◌, ℕ, ◌≤◌, ◌<◌, ◌+◌, Bool, true, false, cond, ◌==◌, ◌&&◌, ◌||◌, nat_lt, List, Option, Some, None, IfSome, is_none, is_some}
 use Rattle.std.specs.List.{AllByRecursion}
 use Rattle.std.specs.Str.{bytes_eq}
+use Rattle.std.specs.Option.{option_map}
+use Rattle.ele_lists.specs.Last.{last_passing}
 use Rattle.ele_lists.specs.Lists.{AllLater}
+use Rattle.ele_model.specs.NameRows.{is_live_directory}
+use Rattle.ele_model.specs.WellFormed.{is_reached}
 use Rattle.ele_model.specs.World.{next_of}
 use Rattle.ele_model.specs.declared.rows.FileRow.{FileRow}
 use Rattle.ele_model.specs.declared.rows.GroupRow.{GroupRow}
 use Rattle.ele_model.specs.declared.rows.MarkRow.{MarkRow}
 use Rattle.ele_model.specs.declared.rows.NameRow.{NameRow}
+use Rattle.ele_model.specs.declared.rows.Reads.{Reads}
+use Rattle.ele_model.specs.declared.rows.Reads.TheVariants.{Draft, Version}
 use Rattle.ele_model.specs.declared.rows.Target.{Target}
 use Rattle.ele_model.specs.declared.rows.Target.TheVariants.{File, Directory}
 use Rattle.ele_model.specs.declared.rows.VersionRow.{VersionRow}
@@ -24,9 +30,22 @@ file_in (Directory id) = None
 abbrev pub live_directory : NameRow → Option ℕ
 live_directory row = cond (is_some row.death) None (directory_in row.target)
 
+-- a live name is in the root or in a directory that has a live name
+abbrev pub HasHome : List NameRow → NameRow → Type 0
+HasHome names row = row.death ≡ None → is_reached names row.directory ≡ true
+
+-- the directory that has the directory's live name, the last one if there are several
+abbrev pub parent_of : List NameRow → ℕ → Option ℕ
+parent_of names directory = option_map (λ row. row.directory) (last_passing (is_live_directory directory) names)
+
 -- the file of a live name
 abbrev pub live_file : NameRow → Option ℕ
 live_file row = cond (is_some row.death) None (file_in row.target)
+
+-- the file whose draft is written
+abbrev pub file_written : Reads → Option ℕ
+file_written (Draft file) = Some file
+file_written (Version file number) = None
 
 -- the file of a version without an end
 abbrev pub endless : VersionRow → Option ℕ

@@ -1,7 +1,8 @@
-//! The parts of a world in their order, and the first that fails.
+//! The parts of a world that a run may begin in, in their order, and the first that fails.
 //! A contract sees the fault with the parts before it.
-ghost use Rattle.std.specs.Prelude.{◌≡◌, MatchOption, IfOk, OnErr};
-ghost use Rattle.ele_well_formed.specs.Fault.{CountsHold, DirectoriesHold, GroupsHold, HasContents, HasFault, HasLives, HasNames, HasNumbered, IsWhole, NamesHold};
+ghost use Rattle.std.specs.Prelude.{◌≡◌, MatchOption, IfOk, IfSome, OnErr};
+ghost use Rattle.ele_model.specs.Start.{IsStart};
+ghost use Rattle.ele_well_formed.specs.Fault.{CountsHold, DirectoriesHold, GroupsHold, HasContents, HasFault, HasLives, HasNames, HasNumbered, NamesHold};
 
 use crate::blocks::differing;
 use crate::counts::counts_hold;
@@ -14,7 +15,9 @@ use crate::homes::{nameless_directory, second_name, wrong_home};
 use crate::lives::{idle_file, live_files, wrong_current, wrong_end};
 use crate::names::{misplaced_name, wrong_name};
 use crate::readers::wrong_reader;
+use crate::tree::{cyclic_name, root_name};
 use crate::versions::wrong_version;
+use crate::writers::unwritten_draft;
 use ele_model::{Flat, NoMemory, Which};
 use std::alloc::Global;
 
@@ -81,33 +84,42 @@ fn home_fault(flat: &Flat, alloc: Global) -> Result<Option<FlatFault>, NoMemory>
     if let Some(at) = nameless_directory(directories, names, alloc)? {
         return Ok(Some(FlatFault::Nameless(at)));
     }
-    match second_name(names, alloc)? {
-        Some(at) => Ok(Some(FlatFault::Tree(at))),
+    if let Some(at) = second_name(names, alloc)? {
+        return Ok(Some(FlatFault::Tree(at)));
+    }
+    if let Some(at) = root_name(names) {
+        return Ok(Some(FlatFault::RootName(at)));
+    }
+    match cyclic_name(names, alloc)? {
+        Some(at) => Ok(Some(FlatFault::Cycle(at))),
         None => Ok(None),
     }
 }
 
 // The first fault of the versions, the drafts and the handles, after the names.
-fn content_fault(flat: &Flat) -> Option<FlatFault>
+fn content_fault(flat: &Flat, alloc: Global) -> Result<Option<FlatFault>, NoMemory>
     requires { HasNames flat.now }
-    ensures { MatchOption result (HasContents flat.entry.now) (HasFault flat.entry.now) }
+    ensures { IfOk result (λ found. MatchOption found (HasContents flat.entry.now) (HasFault flat.entry.now)) }
 {
     let files = flat.files.as_slice();
     let versions = flat.versions.as_slice();
     let drafts = flat.drafts.as_slice();
     let handles = flat.handles.as_slice();
     if let Some(at) = wrong_version(versions, files, flat.now) {
-        return Some(FlatFault::Versions(at));
+        return Ok(Some(FlatFault::Versions(at)));
     }
     if let Some(at) = wrong_draft(drafts, files, flat.now) {
-        return Some(FlatFault::Drafts(at));
+        return Ok(Some(FlatFault::Drafts(at)));
     }
     if let Some(at) = wrong_handle(handles, flat.made.handles, drafts) {
-        return Some(FlatFault::Handles(at));
+        return Ok(Some(FlatFault::Handles(at)));
     }
-    match wrong_reader(handles, versions) {
-        Some(at) => Some(FlatFault::Readers(at)),
-        None => None,
+    if let Some(at) = wrong_reader(handles, versions) {
+        return Ok(Some(FlatFault::Readers(at)));
+    }
+    match unwritten_draft(drafts, handles, alloc)? {
+        Some(at) => Ok(Some(FlatFault::Writers(at))),
+        None => Ok(None),
     }
 }
 
@@ -151,7 +163,7 @@ fn group_fault(flat: &Flat, alloc: Global) -> Result<Option<FlatFault>, NoMemory
 // The first fault of rows whose numbers fit.
 fn later_fault(flat: &Flat, alloc: Global) -> Result<Option<FlatFault>, NoMemory>
     requires { HasNumbered flat.now }
-    ensures { IfOk result (λ found. MatchOption found (IsWhole flat.entry.now) (HasFault flat.entry.now)) }
+    ensures { IfOk result (λ found. MatchOption found (IsStart flat.entry.now) (HasFault flat.entry.now)) }
 {
     flat.now.lemma_in_range();
     flat.limits.lemma_within();
@@ -161,7 +173,7 @@ fn later_fault(flat: &Flat, alloc: Global) -> Result<Option<FlatFault>, NoMemory
     if let Some(fault) = home_fault(flat, alloc)? {
         return Ok(Some(fault));
     }
-    if let Some(fault) = content_fault(flat) {
+    if let Some(fault) = content_fault(flat, alloc)? {
         return Ok(Some(fault));
     }
     if let Some(fault) = life_fault(flat, alloc)? {
@@ -176,17 +188,18 @@ fn later_fault(flat: &Flat, alloc: Global) -> Result<Option<FlatFault>, NoMemory
     }
 }
 
-/// Returns the first fault of the rows, by which they are no world of `ele_model`: not well formed,
-/// with an idle file, or with two contents that have one block and other bytes in it. None if they
-/// are one. The faults have the order of `FlatFault`, and before each the parts hold that come
-/// first.
+/// Returns the first fault of the rows, by which no run of `ele_model` may begin in them: they aren't
+/// well formed, have an idle file, a directory that is in itself, a draft without a writer, or two
+/// contents that have one block and other bytes in it. None if a run may. The faults have the order
+/// of `FlatFault`, and before each the parts hold that come first.
 ///
 /// `NoMemory` if memory is refused. Counts, directories and files take no memory, so then these
 /// fit.
 /// Cost: grows with the rows and cells times the logarithm of their number, and with the bytes.
 pub fn fault_of(flat: &Flat) -> Result<Option<FlatFault>, NoMemory>
     ensures ok { IfOk result
-        (λ found. MatchOption found (IsWhole flat.entry.now) (HasFault flat.entry.now)) }
+        (λ found. MatchOption found (IsStart flat.entry.now) (HasFault flat.entry.now)) }
+    ensures no_run { IfOk result (λ found. IfSome found (λ fault. IsStart flat.entry.now → ⊥)) }
     ensures err { OnErr result (HasNumbered flat.entry.now) }
 {
     let alloc = flat.names.allocator();

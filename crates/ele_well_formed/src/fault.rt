@@ -34,6 +34,13 @@ pub enum FlatFault {
     /// The live name at this place means a directory that an earlier live name means.
     #[error("name row {0}: its directory has an earlier live name")]
     Tree(usize),
+    /// The name at this place means the root directory.
+    #[error("name row {0}: it means the root directory")]
+    RootName(usize),
+    /// The live name at this place is in a directory to which no live names lead from the root: one
+    /// that is in itself, at some depth.
+    #[error("name row {0}: no live names lead from the root to its directory")]
+    Cycle(usize),
     /// The version at this place has a wrong file, number, moment or content, or isn't in order.
     #[error("version row {0}: its file, numbers, moments or content is wrong, or its order")]
     Versions(usize),
@@ -47,6 +54,9 @@ pub enum FlatFault {
     /// The handle at this place reads a version that isn't held.
     #[error("handle row {0}: its version isn't held")]
     Readers(usize),
+    /// No handle writes the draft at this place.
+    #[error("draft row {0}: no handle writes it")]
+    Writers(usize),
     /// The file at this place is live, and its last version isn't held or has an end.
     #[error("file row {0}: it has a name and no current version")]
     Current(usize),

@@ -19,8 +19,8 @@ use ele_model::{DirId, DirectoryRow, NameRow, NoMemory, Target};
 use std::alloc::Global;
 use std::collections::BTreeSet;
 
-// The directory that the name means, live or dead.
-fn directory_of(row: &NameRow) -> Option<u64>
+/// Returns the directory that the name means, live or dead.
+pub fn directory_of(row: &NameRow) -> Option<u64>
     ensures { result ≡ directory_in row.now.target }
 {
     match row.target {
@@ -29,8 +29,8 @@ fn directory_of(row: &NameRow) -> Option<u64>
     }
 }
 
-// The directory that the name means, if it is live.
-fn live_directory_of(row: &NameRow) -> Option<u64>
+/// Returns the directory that the name means, if it is live.
+pub fn live_directory_of(row: &NameRow) -> Option<u64>
     ensures { result ≡ live_directory row.now }
 {
     if row.death.is_some() {

@@ -1,5 +1,5 @@
-//! Whether flat rows are a world: one that a run can reach by the parts of `ele_model`, and the first
-//! fault of rows that are none. A contract sees the rows as a world, and a fault as what is wrong.
+//! Whether flat rows are a world that a run may begin in, as `ele_model` says, and the first fault of
+//! rows that are none. A contract sees the rows as a world, and a fault as what is wrong.
 #![tactic(auto)]
 
 mod blocks;
@@ -18,7 +18,9 @@ mod numbered;
 mod readers;
 mod sets;
 mod test;
+mod tree;
 mod versions;
+mod writers;
 
 pub use check::fault_of;
 pub use fault::FlatFault;

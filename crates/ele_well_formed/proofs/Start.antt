@@ -2,12 +2,14 @@
 use Rattle.std.specs.Prelude.{◌≤◌}
 use Rattle.ele_moment.specs.Last.{last_moment}
 use Rattle.ele_model.specs.Bounds.{AreBounds}
+use Rattle.ele_model.specs.Start.{IsStart}
 use Rattle.ele_model.specs.World.{World}
-use Rattle.ele_well_formed.specs.Fault.{GroupsHold, HasLives, IsWhole}
+use Rattle.ele_well_formed.proofs.OneContent.{one_content_of}
+use Rattle.ele_well_formed.specs.Fault.{GroupsHold, HasLives}
 use Rattle.ele_well_formed.specs.Sharing.{IsSharing}
 
-pub whole : (w : World) → w.now ≤ last_moment → AreBounds w.limits → HasLives w → GroupsHold w → IsSharing w → IsWhole w
-whole w now bounded lives groups shared =
+pub start : (w : World) → w.now ≤ last_moment → AreBounds w.limits → HasLives w → GroupsHold w → IsSharing w → IsStart w
+start w now bounded lives groups shared =
     let held = lives.held in
     let named = held.named in
     record {
@@ -28,6 +30,8 @@ whole w now bounded lives groups shared =
         ended = lives.ended;
         groups = groups;
       };
-      busy = lives.busy;
-      shared = shared;
+      idle = lives.busy;
+      tree = named.rooted;
+      writers = held.writers;
+      contents = one_content_of w shared;
     }
