@@ -22,6 +22,7 @@ mod copy;
 mod directory;
 mod explaining;
 mod fate;
+mod from_flat;
 mod group;
 mod name;
 mod question;
@@ -29,6 +30,7 @@ mod session;
 mod step;
 mod version;
 
+pub use crate::from_flat::FromFlatError;
 pub use ele_events::{Halt, Stat};
 pub use ele_model::{
     Boxed, ByteList, Cause, Cell, Counts, DeletedName, DeletedNameList, DirId, DirectoryRow,
@@ -43,6 +45,7 @@ pub use ele_path::{PathAtFault, PathFault};
 pub use ele_policy::{BadLadder, Floor, Interval};
 pub use ele_state::Copied;
 use ele_state::State;
+pub use ele_well_formed::FlatFault;
 use std::alloc::Global;
 use std::marker::Model;
 
@@ -117,10 +120,10 @@ impl Core {
         }
     }
 
-    /// Returns the current moment. Its contract also says that events led to the world, from the
-    /// fresh world of limits that are allowed. So the headline holds of its next event, and the laws
-    /// of `ele_world` hold. Three of them are clauses too: the world is well formed, its limits are
-    /// allowed, and each file has a live name, a held version or a draft.
+    /// Returns the current moment. Its contract also says that events led to the world, from one
+    /// that a run may begin in, such as the fresh world. So the headline holds of its next event,
+    /// and the laws of `ele_world` hold. Three of them are clauses too: the world is well
+    /// formed, its limits are allowed, and each file has a live name, a held version or a draft.
     /// Cost: constant time.
     pub fn now(&self) -> Moment
         ensures value { result ≡ self.now.world.now }

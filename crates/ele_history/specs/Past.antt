@@ -1,5 +1,5 @@
 -- A history, and how it grows and is trimmed.
-use Rattle.std.specs.Prelude.{◌≡◌, ℕ, ◌+◌, ◌<◌, List, [], ◌∷◌, ◌++◌, length, map}
+use Rattle.std.specs.Prelude.{◌≡◌, ℕ, ◌+◌, ◌<◌, List, [], ◌∷◌, ◌++◌, length, map, max}
 use Rattle.ele_model.specs.Bounds.{Bounds}
 use Rattle.ele_model.specs.declared.entry.Entry.{Entry}
 use Rattle.ele_model.specs.declared.event.Event.{Event}
@@ -36,6 +36,14 @@ IsFull past = count_of past ≡ past.base.limits.events
 -- the history before the first entry
 abbrev pub fresh : Bounds → Past
 fresh limits = record { base = fresh_world limits; folded = 0; entries = [] }
+
+-- so many entries, but at least one, since a history without one begins in the fresh world
+abbrev pub counted_from : ℕ → ℕ
+counted_from folded = max folded 1
+
+-- the history that begins in the world, after so many entries
+abbrev pub begun_from : World → ℕ → Past
+begun_from base folded = record { base = base; folded = counted_from folded; entries = [] }
 
 -- the history with this entry after the others
 abbrev pub extended : Past → Entry → Past

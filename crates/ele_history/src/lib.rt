@@ -9,12 +9,14 @@ ghost use Rattle.std.specs.Io.BufRead.{Rests};
 ghost use Rattle.std.specs.Option.{option_copied, option_map};
 ghost use Rattle.ele_model.specs.Run.{IsEvent};
 ghost use Rattle.ele_model.specs.Step.{step};
+ghost use Rattle.ele_model.specs.World.{fresh_world};
 ghost use Rattle.ele_history.specs.Legal.{IsLegal, KeepHeadline};
 ghost use Rattle.ele_history.specs.Past.{HasRoom, IsFull, count_of, events_of, fresh, reply_to, trimmed, world_of};
 ghost use Rattle.ele_history.specs.Reached.{IsReachedBy};
 ghost use Rattle.ele_history.specs.Reply.{MayRecord, MayReply};
 ghost use Rattle.ele_history.specs.contracts.History.{the_row};
 
+mod from_flat;
 pub mod laws;
 mod pass;
 
@@ -170,12 +172,15 @@ impl<C: Step> History<C> {
         Ok(count)
     }
 
-    /// Returns the base: the world before the first entry. The folded events led to it, from the
-    /// fresh world of limits that are allowed, so the headline holds of each entry.
+    /// Returns the base: the world before the first entry. The folded events led to it, or those of
+    /// them that came after the rows of which the history was made, from one that a run may begin
+    /// in. So the headline holds of each entry. If none is folded, the base is the fresh world of its
+    /// limits.
     /// Cost: constant time.
     pub fn base(&self) -> &Flat
         ensures value { result.now ≡ self.now.base }
         ensures reached { IsReachedBy self.now.folded self.now.base }
+        ensures fresh { self.now.folded ≡ 0 → self.now.base ≡ fresh_world self.now.base.limits }
     {
         &self.base
     }

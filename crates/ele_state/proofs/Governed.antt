@@ -13,6 +13,14 @@ use Rattle.ele_model.proofs.PolicyMoments.{policy_others, policy_own}
 abbrev pub is_among : ℕ → List VersionInfo → ℕ → ℕ → Bool
 is_among file held owner number = (owner == file) && list_any (λ info. info.number == number) held
 
+module _ (file : ℕ) where
+  pub one_more : (held : List VersionInfo) (i : ℕ) (info : VersionInfo) → i < length held → info ≡ get_or held i info → (owner number : ℕ) → is_among file (take (i + 1) held) owner number ≡ (is_among file (take i held) owner number || is_one file info.number owner number)
+  one_more held i info within at owner number = rw (list_any_more (λ (s : VersionInfo). s.number == number) held i info within, ← at) (grind (arith, nat_tests))
+
+  pub held_told : (number : ℕ) (rows : List VersionRow) → list_any (λ (s : VersionInfo). s.number == number) (map info_of (filter (is_version_of file) rows)) ≡ list_any (is_version file number) rows
+  held_told number [] = refl
+  held_told number (row ∷ rows) = grind (arith, nat_tests, held_told number rows)
+
 -- a version that isn't held has none
 pub unheld : (groups : List GroupRow) (h : Held) (file number : ℕ) (rule : Rule) → find (is_version file number) h.versions ≡ None → unread_under groups rule h file number ≡ None
 unheld groups h file number rule none = grind (arith, nat_tests, none)
@@ -35,16 +43,9 @@ module _ (groups : List GroupRow) (h : Held) (file : ℕ) (was is : Rule) where
     pub changes_under : (one other : Option ℕ) → told_under was ≡ one → told_under is ≡ other → AreOf (is_one file info.number) (if_changed (Some (record { file = file; number = info.number; was = one; is = other })))
     changes_under one other before then = one_changes _ _ file info.number one other (has was ∙ before) (has is ∙ then)
 
-  pub one_more : (held : List VersionInfo) (i : ℕ) (info : VersionInfo) → i < length held → info ≡ get_or held i info → (owner number : ℕ) → is_among file (take (i + 1) held) owner number ≡ (is_among file (take i held) owner number || is_one file info.number owner number)
-  one_more held i info within at owner number = rw (list_any_more (λ (s : VersionInfo). s.number == number) held i info within, ← at) (grind (arith, nat_tests))
-
-  held_told : (number : ℕ) (rows : List VersionRow) → list_any (λ (s : VersionInfo). s.number == number) (map info_of (filter (is_version_of file) rows)) ≡ list_any (is_version file number) rows
-  held_told number [] = refl
-  held_told number (row ∷ rows) = grind (arith, nat_tests, held_told number rows)
-
   -- so if these are all held ones, no other changes
   pub all_under : (held : List VersionInfo) (changes : List KeyChange) → held ≡ map info_of (filter (is_version_of file) h.versions) → AreOf (is_among file held) changes → AreOf (is_own file) changes
-  all_under held changes all are = wider _ _ (is_among file held) (is_own file) changes (λ owner number h. grind (arith, nat_tests, h)) (λ owner number own none. grind (arith, nat_tests, own, none, held_told number h.versions, all, any_is (is_version file number) h.versions)) are
+  all_under held changes all are = wider _ _ (is_among file held) (is_own file) changes (λ owner number h. grind (arith, nat_tests, h)) (λ owner number own none. grind (arith, nat_tests, own, none, held_told file number h.versions, all, any_is (is_version file number) h.versions)) are
 
 -- a live name keeps those that have too few newer ones, and leaves the others their moments
 module _ (groups : List GroupRow) (policy : Policy) (h : Held) (file number : ℕ) (given : IsLawful policy) where

@@ -26,3 +26,4 @@ pub mod OpenedKeys
 pub mod ToldVersions
 pub mod Walked
 pub mod Fated
+pub mod OfRows

@@ -54,7 +54,7 @@ pub read_queue : (rows : Rows) (handle file number : ℕ) (after : List Key) →
 read_queue rows handle file number after sound edited =
     let w = world_of rows in
     let ordered = in_order_of w sound.formed in
-    grind (arith, nat_tests, entry_follows, sound.tracked.queue, taken_key, ripe_told rows file number sound, opened_own w handle (Version file number) ordered file number, opened_others w handle (Version file number) ordered)
+    grind (arith, nat_tests, entry_follows, sound.tracked.queue, taken_key, ripe_told rows file number sound.formed, opened_own w handle (Version file number) ordered file number, opened_others w handle (Version file number) ordered)
 
 -- the close of a handle that read gives it back, unless another reads on
 module _ (rows : Rows) (handle file number : ℕ) (reads : reads_by rows.files.handles handle ≡ Ok (Version file number)) (sound : IsSound rows) where
@@ -74,7 +74,7 @@ module _ (rows : Rows) (handle file number : ℕ) (reads : reads_by rows.files.h
   free = free_moment w (cover_of w.groups file) file number
 
   told : ripe_at w file number ≡ cond (is_open w.handles file number) None free
-  told = ripe_told rows file number sound
+  told = ripe_told rows file number sound.formed
 
   is_read : is_open w.handles file number ≡ true
   is_read = grind (arith, nat_tests, has_row w handle (Version file number) reads, any-found)

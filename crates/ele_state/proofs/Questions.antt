@@ -1,5 +1,5 @@
 -- The info of one version, and of the first that are due.
-use Rattle.ele_state.proofs.Words.{[], ◌∷◌, Cover, IsInfoOf, Rule, case_in, case_moment, few_enough, find, is_version, moment_under, ripe_case, ripe_past, rows_of, rule_of, subst, AllLater, ArePlaced, VersionRow, option_and_then, with_newer, ◌-◌, ◌==◌, ◌≡◌, ℕ, ◌≤◌, false, ◌&&◌, List, cond, Option, Some, None, refl, ap, sym, ◌∙◌, arith, nat_le, slice_get, filter_map, option_map, option_map_or, nat_tests, world_of, IsSound, former_moment, gained_moment, Rows, Key, has_key, is_ripe_by, Held, VersionInfo, ripe_at, free_moment, newest_of, due_key, first_due, cover_of, GroupRow, info_of, World, is_open, in_order_of, ripe_at_near, is_due_is, scan_members}
+use Rattle.ele_state.proofs.Words.{HasParts, [], ◌∷◌, Cover, IsInfoOf, Rule, case_in, case_moment, few_enough, find, is_version, moment_under, ripe_case, ripe_past, rows_of, rule_of, subst, AllLater, ArePlaced, VersionRow, option_and_then, with_newer, ◌-◌, ◌==◌, ◌≡◌, ℕ, ◌≤◌, false, ◌&&◌, List, cond, Option, Some, None, refl, ap, sym, ◌∙◌, arith, nat_le, slice_get, filter_map, option_map, option_map_or, nat_tests, world_of, IsSound, former_moment, gained_moment, Rows, Key, has_key, is_ripe_by, Held, VersionInfo, ripe_at, free_moment, newest_of, due_key, first_due, cover_of, GroupRow, info_of, World, is_open, in_order_of, ripe_at_near, is_due_is, scan_members}
 use Rattle.ele_state.proofs.Changes.{passing}
 use Rattle.ele_moment.specs.Last.{last_moment}
 use Rattle.ele_due.specs.InOrder.{in_order}
@@ -47,8 +47,8 @@ pub due_by_key : (rows : Rows) (file number : ℕ) → IsSound rows → is_due (
 due_by_key rows file number sound = grind (arith, nat_tests, is_due_is (world_of rows) file number sound.formed)
 
 -- the ripe moment of a version, by whether a handle reads it
-pub ripe_told : (rows : Rows) (file number : ℕ) → IsSound rows → ripe_at (world_of rows) file number ≡ cond (is_open rows.files.handles file number) None (free_moment (world_of rows) (cover_of rows.groups file) file number)
-ripe_told rows file number sound = ripe_at_near (world_of rows) (in_order_of (world_of rows) sound.formed) file number
+pub ripe_told : (rows : Rows) (file number : ℕ) → HasParts (world_of rows) → ripe_at (world_of rows) file number ≡ cond (is_open rows.files.handles file number) None (free_moment (world_of rows) (cover_of rows.groups file) file number)
+ripe_told rows file number formed = ripe_at_near (world_of rows) (in_order_of (world_of rows) formed) file number
 
 -- the moment that the version gets that gains, by its info
 abbrev gained_by : List GroupRow → Held → Rule → ℕ → ℕ → VersionInfo → Option ℕ

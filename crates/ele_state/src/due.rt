@@ -7,7 +7,7 @@ ghost use Rattle.ele_model.specs.Scan.{scan, first_due};
 ghost use Rattle.ele_model.specs.Usage.{usages};
 
 use crate::State;
-use crate::moments::free_moment;
+use crate::moments::ripe_moment;
 use ele_model::{FileId, Key, KeyList, ListOf, Moment, NoMemory, VersionNo};
 use ele_usage::Usage;
 
@@ -20,15 +20,12 @@ fn is_ripe(key: &Key, now: Moment) -> bool
 
 impl State {
     /// Returns whether the version is held and due now.
-    #[tactic(auto, using(crate::proofs::Words::nat_tests, crate::proofs::Questions::due_by_key, crate::proofs::Questions::ripe_told))]
+    #[tactic(auto, using(crate::proofs::Words::nat_tests, crate::proofs::Questions::due_by_key))]
     pub fn is_due(&self, file: FileId, number: VersionNo) -> bool
         ensures { result ≡ is_due self.now.world file number }
     {
         let rows = &self.rows;
-        if rows.files.is_open(file, number) {
-            return false;
-        }
-        match free_moment(rows, file, number) {
+        match ripe_moment(rows, file, number) {
             Some(ripe) => {
                 let key = Key { ripe, file, number };
                 is_ripe(&key, rows.moment) && rows.queue.holds(&key)

@@ -16,6 +16,7 @@ ghost use Rattle.ele_state.specs.Full.{is_full, made_of};
 
 mod append;
 mod book;
+mod derived;
 mod directory;
 mod due;
 mod fate;
@@ -26,6 +27,7 @@ mod moments;
 mod name;
 mod path;
 mod policy;
+mod restored;
 mod returning;
 mod rows;
 mod session;

@@ -1,8 +1,9 @@
-//! The ripe moments of versions that no handle reads, by the rules of their files and the marks of
-//! their groups.
+//! The ripe moments of versions, by the rules of their files and the marks of their groups.
 ghost use Rattle.std.specs.Prelude.{◌≡◌};
 ghost use Rattle.ele_model.specs.Cover.{cover_of};
 ghost use Rattle.ele_model.specs.Neighbours.{case_in, free_moment, rule_of};
+ghost use Rattle.ele_model.specs.Parts.{HasParts};
+ghost use Rattle.ele_model.specs.RipeRows.{ripe_at};
 ghost use Rattle.ele_state.specs.Inside.{world_of};
 
 use crate::rows::Rows;
@@ -42,4 +43,16 @@ pub fn free_moment(rows: &Rows, file: FileId, number: VersionNo) -> Option<Momen
         return None;
     };
     case_moment(&rows.groups, file, &beside.case, ended)
+}
+
+// The same, but None if a handle reads the version.
+#[tactic(auto, using(crate::proofs::Words::nat_tests, crate::proofs::Questions::ripe_told))]
+pub fn ripe_moment(rows: &Rows, file: FileId, number: VersionNo) -> Option<Moment>
+    requires { HasParts (world_of rows.now) }
+    ensures { result ≡ ripe_at (world_of rows.now) file number }
+{
+    if rows.files.is_open(file, number) {
+        return None;
+    }
+    free_moment(rows, file, number)
 }

@@ -1,8 +1,12 @@
 use Rattle.ele_commands.proofs.Basics.{◌∷◌, arith}
 use Rattle.ele_commands.proofs.Words.{pieces_are}
-use Rattle.ele_output.proofs.Known.{put_first}
+use Rattle.std.proofs.lemmas.List.{nil_from_length}
+use Rattle.ele_output.proofs.Known.{put_first, puts_nil}
 use Rattle.ele_output.proofs.Lists.{list_done, list_more}
 use Rattle.ele_commands.proofs.pieces.put_pieces.Goals as goal
+
+pub returns-in_default : goal.returns-in_default
+returns-in_default g c = rw (nil_from_length c.args.pieces.now c.in_default.ensures.cases) (puts_nil _)
 
 pub loop-piece-init : goal.loop-piece-init
 loop-piece-init g c = put_first (pieces_are _ _ _ _ c.in-Some.ensures.cases) c.put_piece.ensures

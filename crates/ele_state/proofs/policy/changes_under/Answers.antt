@@ -13,7 +13,7 @@ change_under-requires c =
 
 pub loop-info-preserved : goal.loop-info-preserved
 loop-info-preserved c =
-    let more = one_more c.args.rows.now.groups c.args.rows.now.files c.args.file c.args.was.now c.args.is.now c.as_slice-info-items.result.now c.loop-info.info-index c.info-item.result c.loop-info-test.true c.info-item.is in
+    let more = one_more c.args.file c.as_slice-info-items.result.now c.loop-info.info-index c.info-item.result c.loop-info-test.true c.info-item.is in
     rw c.in_ok-add_change.ensures (both_change _ _ _ _ _ _ _ more c.loop-info.invariant c.change_under.ensures)
 
 pub returns : goal.returns

@@ -1,0 +1,6 @@
+use Rattle.ele_state.proofs.Words.{take, world_of}
+use Rattle.ele_state.proofs.OfRows.{HasUsageOf}
+use Rattle.ele_state.proofs.derived.book_of.Given as goal
+
+abbrev pub invariant-loop-file : goal.invariant-loop-file
+invariant-loop-file l = HasUsageOf (world_of l.rows) (take l.file-index l.files) l.book
