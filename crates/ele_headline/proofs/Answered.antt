@@ -1,9 +1,10 @@
 -- Each answer in a run is as the headline says.
 use Rattle.ele_model.proofs.Basics.{nat_tests, arith, ◌≡◌, ◌∙◌, List, [], ◌∷◌, Option, None, Some, Err, refl, ap, sym, subst, AllByRecursion, all-weaker}
-use Rattle.ele_model.proofs.Words.{AreBounds, Bounds, HasParts, IsEvent, Key, PoliciesAreLawful, World, clean_step, first_due, kept_rows, run_of, step, version_at, TaggedPath}
+use Rattle.ele_model.proofs.Words.{HasParts, IsEvent, IsWellFormed, Key, PoliciesAreLawful, World, clean_step, first_due, fresh_world, kept_rows, run_of, step, version_at, TaggedPath}
+use Rattle.ele_model.proofs.Formed.{in_parts}
 use Rattle.ele_model.proofs.PassEnds.{cleaned_keeps_kept, nothing_due}
-use Rattle.ele_model.proofs.StepKeeps.{run_has, run_keeps}
-use Rattle.ele_headline.specs.Headline.{GivesRow, Headline, HeadlineHolds, KeepsHeadline, past, present}
+use Rattle.ele_model.proofs.StepKeeps.{fresh_is, run_keeps}
+use Rattle.ele_headline.specs.Headline.{GivesRow, Headline, HeadlineHolds, HeadlineInFreshRuns, KeepsHeadline, past, present}
 use Rattle.ele_headline.proofs.HeldStays.{only_due_leave}
 use Rattle.ele_headline.proofs.ReadsBack.{reads_after}
 use Rattle.ele_headline.proofs.Restores.{restorable_lists}
@@ -38,12 +39,12 @@ gives w event row reads = record {
   handle = λ handle is read. ap (λ (asked : Event). (step w asked).0) is ∙ reads.handle handle read;
 }
 
-pub answered : PoliciesAreLawful → (limits : Bounds) (events later : List Event) (event : Event) → AreBounds limits → AllByRecursion IsEvent events → AllByRecursion IsEvent later
-    → Headline limits events later event ((step (present limits events later) event).0) ((step (present limits events later) event).1)
-answered law limits events later event bounds are then =
-    let w = past limits events later in
-    let now = present limits events later in
-    let formed = run_has law limits events bounds are in
+pub answered : PoliciesAreLawful → (start : World) (events later : List Event) (event : Event) → IsWellFormed start → AllByRecursion IsEvent events → AllByRecursion IsEvent later
+    → Headline start events later event ((step (present start events later) event).0) ((step (present start events later) event).1)
+answered law start events later event begins are then =
+    let w = past start events later in
+    let now = present start events later in
+    let formed = run_keeps start events are (in_parts law start begins) in
     let k = run_keeps w later then formed in
     record {
       due = λ is. (ap (λ (asked : Event). (step now asked).0) is, scan_lists now k);
@@ -59,8 +60,11 @@ answered law limits events later event bounds are then =
     }
 
 pub headline : PoliciesAreLawful → HeadlineHolds
-headline law w event limits events later bounds are then is =
-    subst (λ (now : World). Headline limits events later event ((step now event).0) ((step now event).1)) (sym is) (answered law limits events later event bounds are then)
+headline law w event start events later begins are then is =
+    subst (λ (now : World). Headline start events later event ((step now event).0) ((step now event).1)) (sym is) (answered law start events later event begins are then)
+
+pub headline_in_fresh_runs : PoliciesAreLawful → HeadlineInFreshRuns
+headline_in_fresh_runs law limits events later event bounds are then = answered law (fresh_world limits) events later event (fresh_is limits bounds) are then
 
 -- what is answered as the step answers it keeps the headline
 pub keeps : HeadlineHolds → (w : World) (event : Event) (reply : Reply) (after : World) → (reply, after) ≡ step w event → KeepsHeadline w event reply after

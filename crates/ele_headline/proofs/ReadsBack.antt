@@ -1,7 +1,7 @@
 -- A version that is held has the cells that it had when it closed.
 use Rattle.ele_model.proofs.Basics.{nat_tests, arith, ◌≡◌, ℕ, List, [], ◌∷◌, Option, IfSome, refl, find, Ok, AllByRecursion, all-found, all-weaker, all-both, AllLater}
 use Rattle.ele_model.proofs.Words.{Cell, content_of, TaggedPath, Change, after_change, after_changes, PoliciesAreLawful, fresh_world, run_of, plan, step, version_at, ArePlaced, IsVersion, Versions, Readers, HasParts, World, is_version, reads_by, IsEvent}
-use Rattle.ele_headline.proofs.Words.{Bytes, Event, Of, Read, ReadsAsClosed, ReadsAsClosedInRuns, ReadsRow, Tagged, Version, VersionRow}
+use Rattle.ele_headline.proofs.Words.{Bytes, Event, Of, Read, ReadsAsClosed, ReadsAsClosedInFreshRuns, ReadsAsClosedInRuns, ReadsRow, Tagged, Version, VersionRow}
 use Rattle.ele_model.proofs.Allowed.{allowed}
 use Rattle.ele_model.proofs.Formed.{in_parts}
 use Rattle.ele_model.proofs.Keeps.{reached}
@@ -11,7 +11,7 @@ use Rattle.ele_model.proofs.Meant.{is_at}
 use Rattle.ele_model.proofs.Readers.{has_row}
 use Rattle.ele_headline.proofs.HeldRows.{IsPast, change_past, Moves, change_moves}
 use Rattle.ele_headline.proofs.HeldStays.{held_past}
-use Rattle.ele_model.proofs.StepKeeps.{step_keeps, run_keeps, run_has}
+use Rattle.ele_model.proofs.StepKeeps.{fresh_is, step_keeps, run_keeps}
 use Rattle.ele_model.proofs.Versions.{IsFound, all_found}
 
 -- ---- its cells stay
@@ -60,4 +60,7 @@ pub reads_as_closed : PoliciesAreLawful → ReadsAsClosed
 reads_as_closed law w events k are = reads_after w events are (in_parts law w k)
 
 pub reads_as_closed_in_runs : PoliciesAreLawful → ReadsAsClosedInRuns
-reads_as_closed_in_runs law limits before after bounds are then = reads_after (run_of (fresh_world limits) before) after then (run_has law limits before bounds are)
+reads_as_closed_in_runs law start before after formed are then = reads_after (run_of start before) after then (run_keeps start before are (in_parts law start formed))
+
+pub reads_as_closed_in_fresh_runs : PoliciesAreLawful → ReadsAsClosedInFreshRuns
+reads_as_closed_in_fresh_runs law limits before after bounds are then = reads_as_closed_in_runs law (fresh_world limits) before after (fresh_is limits bounds) are then

@@ -12,4 +12,4 @@ pub use Rattle.ele_model.specs.declared.rows.Reads.TheVariants.{Version}
 pub use Rattle.ele_model.specs.declared.rows.Target.{Target}
 pub use Rattle.ele_model.specs.declared.rows.Target.TheVariants.{File}
 pub use Rattle.ele_model.specs.declared.rows.VersionRow.{VersionRow}
-pub use Rattle.ele_headline.specs.ReadsAsClosed.{ReadsAsClosed, ReadsAsClosedInRuns, ReadsRow}
+pub use Rattle.ele_headline.specs.ReadsAsClosed.{ReadsAsClosed, ReadsAsClosedInFreshRuns, ReadsAsClosedInRuns, ReadsRow}

@@ -24,6 +24,7 @@ use Rattle.ele_model.specs.Scan.{scan}
 use Rattle.ele_model.specs.Step.{step}
 use Rattle.ele_model.specs.Tagged.{version_at}
 use Rattle.ele_model.specs.Usage.{usages}
+use Rattle.ele_model.specs.WellFormed.{IsWellFormed}
 use Rattle.ele_model.specs.World.{World, fresh_world, is_held, reads_by}
 
 -- a read of the version, by a tag or by a handle, returns the bytes of the row
@@ -33,11 +34,11 @@ pub record GivesRow (now : World) (event : Event) (reply : Reply) (row : Version
   pub handle : (handle : ℕ) → event ≡ Read (Of handle) → reads_by now.handles handle ≡ Ok (Version row.file row.number)
       → reply ≡ Bytes (content_of row.cells)
 
--- A run from the fresh world of any limits. Any events, with cleans anywhere among them, lead to the past world, and any later events to
--- the present world.
-module _ (limits : Bounds) (events later : List Event) where
+-- A run from any well-formed world. Any events, with cleans anywhere among them, lead to the past world, and any later events to the
+-- present world.
+module _ (start : World) (events later : List Event) where
   abbrev pub past : World
-  past = run_of (fresh_world limits) events
+  past = run_of start events
 
   abbrev pub present : World
   present = run_of past later
@@ -59,12 +60,19 @@ module _ (limits : Bounds) (events later : List Event) where
     -- a read by a tag is refused if the version isn't held: no other version's bytes are returned in its place
     pub missing : (tagged : TaggedPath) (refusal : Refusal) → event ≡ Read (Tagged tagged) → version_at present tagged ≡ Err refusal → reply ≡ Refused refusal
 
--- the reply keeps the headline in each run that leads to the world, wherever the run is cut in two
+-- the reply keeps the headline in each run that leads to the world, from whatever well-formed world and wherever the run is cut in two
 abbrev pub KeepsHeadline : World → Event → Reply → World → Type 0
 KeepsHeadline w event reply after =
-    (limits : Bounds) (events later : List Event) → AreBounds limits → AllByRecursion IsEvent events → AllByRecursion IsEvent later
-    → w ≡ present limits events later → Headline limits events later event reply after
+    (start : World) (events later : List Event) → IsWellFormed start → AllByRecursion IsEvent events → AllByRecursion IsEvent later
+    → w ≡ present start events later → Headline start events later event reply after
 
 -- this is true of every event
 abbrev pub HeadlineHolds : Type 0
 HeadlineHolds = (w : World) (event : Event) → KeepsHeadline w event ((step w event).0) ((step w event).1)
+
+-- and so of every run from the fresh world of any limits
+abbrev pub HeadlineInFreshRuns : Type 0
+HeadlineInFreshRuns =
+    (limits : Bounds) (events later : List Event) (event : Event) → AreBounds limits → AllByRecursion IsEvent events → AllByRecursion IsEvent later
+    → let start = fresh_world limits in
+    let now = present start events later in Headline start events later event ((step now event).0) ((step now event).1)

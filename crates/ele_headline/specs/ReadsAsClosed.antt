@@ -27,8 +27,14 @@ abbrev pub ReadsAsClosed : Type 0
 ReadsAsClosed =
     (w : World) (events : List Event) → IsWellFormed w → AllByRecursion IsEvent events → AllByRecursion (ReadsRow (run_of w events)) w.versions
 
--- the same is true of every run
+-- the same is true of each world of a run from it
 abbrev pub ReadsAsClosedInRuns : Type 0
 ReadsAsClosedInRuns =
+    (start : World) (before after : List Event) → IsWellFormed start → AllByRecursion IsEvent before → AllByRecursion IsEvent after
+    → let w = run_of start before in AllByRecursion (ReadsRow (run_of w after)) w.versions
+
+-- and so of each run from the fresh world
+abbrev pub ReadsAsClosedInFreshRuns : Type 0
+ReadsAsClosedInFreshRuns =
     (limits : Bounds) (before after : List Event) → AreBounds limits → AllByRecursion IsEvent before → AllByRecursion IsEvent after
     → let w = run_of (fresh_world limits) before in AllByRecursion (ReadsRow (run_of w after)) w.versions

@@ -2,20 +2,28 @@
 //! definitions.
 #![tactic(auto)]
 
-ghost use Rattle.ele_headline.specs.Headline.{HeadlineHolds};
+ghost use Rattle.ele_headline.specs.Headline.{HeadlineHolds, HeadlineInFreshRuns};
 ghost use Rattle.ele_headline.specs.HeldStays.{HeldStays};
 ghost use Rattle.ele_headline.specs.OnlyDueLeave.{OnlyDueLeave};
 ghost use Rattle.ele_headline.specs.PassLeavesKept.{PassLeavesKept};
-ghost use Rattle.ele_headline.specs.ReadsAsClosed.{ReadsAsClosed, ReadsAsClosedInRuns};
+ghost use Rattle.ele_headline.specs.ReadsAsClosed.{ReadsAsClosed, ReadsAsClosedInFreshRuns, ReadsAsClosedInRuns};
 ghost use Rattle.ele_headline.specs.RestorableLists.{RestorableLists};
 ghost use Rattle.ele_headline.specs.ScanLists.{ScanLists};
 
 use ele_policy::laws;
 
-/// The headline: in every run, each event gets the reply that the headline says, after any events
-/// and before any others.
+/// The headline: in every run from a well-formed world, each event gets the reply that the headline
+/// says, after any events and before any others.
 pub fn headline()
     ensures { HeadlineHolds }
+{
+    laws::policies_are_lawful();
+}
+
+/// The headline of every run from the fresh world.
+#[tactic(auto, using(crate::proofs::Answered::headline_in_fresh_runs))]
+pub fn headline_in_fresh_runs()
+    ensures { HeadlineInFreshRuns }
 {
     laws::policies_are_lawful();
 }
@@ -44,10 +52,12 @@ pub fn reads_as_closed()
     laws::policies_are_lawful();
 }
 
-/// The same law, for every run.
-#[tactic(auto, using(crate::proofs::ReadsBack::reads_as_closed_in_runs))]
+/// The same law, of each world of a run from a well-formed world, and of each run from the fresh
+/// world.
+#[tactic(auto, using(crate::proofs::ReadsBack::reads_as_closed_in_runs, crate::proofs::ReadsBack::reads_as_closed_in_fresh_runs))]
 pub fn reads_as_closed_in_runs()
-    ensures { ReadsAsClosedInRuns }
+    ensures runs { ReadsAsClosedInRuns }
+    ensures fresh { ReadsAsClosedInFreshRuns }
 {
     laws::policies_are_lawful();
 }
