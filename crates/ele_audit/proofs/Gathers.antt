@@ -1,21 +1,16 @@
 -- Rows, entry after entry.
-use Rattle.ele_audit.proofs.Basics.{List, [], append_assoc, append-nil, arith, ap, length, drop, refl, sym, subst, ℕ, ◌++◌, ◌∷◌, ◌≡◌, ◌≤◌, ◌<◌, ◌+◌, ◌∙◌, get_or, Some, None, false, true, drop_more, at_drop_all, suc, zero}
+use Rattle.ele_audit.proofs.Basics.{List, [], append_assoc, append-nil, ap, length, drop, refl, sym, subst, ℕ, ◌++◌, ◌∷◌, ◌≡◌, ◌≤◌, ◌<◌, ◌+◌, ◌∙◌, get_or, Some, None, false, true, drop_more, at_drop_all}
 use Rattle.ele_audit.proofs.Clocks.{clocked}
 use Rattle.ele_audit.specs.Clock.{clock_after}
 use Rattle.std.specs.List.{AllZip}
 use Rattle.ele_audit.specs.Open.{opened_at, opens}
-use Rattle.ele_audit.specs.Removals.{AreRemoved, IsBare, IsExplained, IsRow, removal_in, removals}
-use Rattle.ele_history.specs.Past.{Past}
-use Rattle.std.specs.Prelude.{Err, IfOk, Ok, Result, Vec}
+use Rattle.ele_audit.specs.Removals.{removal_in, removals}
 use Rattle.ele_audit.specs.declared.row.Removed.{Removed}
 use Rattle.ele_due.specs.declared.key.Key.{Key}
 use Rattle.ele_history.specs.Legal.{IsLegal}
-use Rattle.ele_history.specs.Reached.{IsReachedBy}
-use Rattle.ele_model.specs.declared.event.Event.{Event}
-use Rattle.ele_model.specs.Run.{run_of}
 use Rattle.ele_model.specs.declared.entry.Entry.{Entry}
 use Rattle.ele_model.specs.Step.{step}
-use Rattle.ele_model.specs.World.{World, fresh_world}
+use Rattle.ele_model.specs.World.{World}
 
 -- ---- lists
 
@@ -76,22 +71,6 @@ time_more w entries i clock entry lt is time =
     let legal : IsLegal w (entry ∷ drop (i + 1) entries) = subst (λ (left : List Entry). IsLegal w left) (left_more entries i entry lt is) time.legal in
     record { now = rw (time.now, legal.0) (sym (clocked w entry.event)); legal = legal.1 }
 
--- ---- removals by the replies
-
-pub record Lists (all : List (World × Key)) (left : List Entry) (clock : ℕ) (rows : List Removed) : Type 0 where
-  pub w : World
-  pub time : IsTime left clock w
-  pub gathers : Gathers IsBare all (removals w left) rows
-
-pub lists_more : (all : List (World × Key)) (entries : List Entry) (i clock : ℕ) (entry : Entry) (rows added more : List Removed)
-    → i < length entries → entry ≡ get_or entries i entry → ((w : World) → clock ≡ w.now → AllZip IsBare (removal_in w entry.reply) added) → more ≡ rows ++ added
-    → Lists all (drop i entries) clock rows → Lists all (drop (i + 1) entries) (clock_after entry.reply clock) more
-lists_more all entries i clock entry rows added more lt is added_are more_is so = record {
-  w = (step so.w entry.event).1;
-  time = time_more so.w entries i clock entry lt is so.time;
-  gathers = replays_more IsBare all so.w ((step so.w entry.event).1) entries i entry rows added more lt is refl (added_are so.w so.time.now) more_is so.gathers;
-}
-
 -- ---- when a handle was opened
 
 pub record Seeks (number : ℕ) (start : World) (all left : List Entry) (clock : ℕ) : Type 0 where
@@ -116,25 +95,8 @@ seeks_none number start entries i clock le so = so.same ∙ ap (λ (left : List 
 
 -- ---- the beginnings
 
-empty : {A : Type 0} (xs : List A) → length xs ≡ 0 → xs ≡ []
-empty [] none = refl
-empty (x ∷ xs) none = absurd (omega (arith, none))
-
--- a base into which nothing was folded is the fresh world
-pub fresh_base : (w : World) (folded : ℕ) → folded ≡ 0 → IsReachedBy folded w → fresh_world w.limits ≡ w
-fresh_base w folded none by =
-    let led = by.reached in
-    let is : w ≡ fresh_world led.limits = led.world ∙ ap (λ (events : List Event). run_of (fresh_world led.limits) events) (empty led.events (by.long ∙ none)) in
-    ap (λ (v : World). fresh_world v.limits) is ∙ sym is
-
 pub replays_none : (R : World × Key → Removed → Type 0) (start w : World) (entries : List Entry) (rows : List Removed) → rows ≡ [] → w ≡ start → Gathers R (removals start entries) (removals w entries) rows
 replays_none R start w entries rows none is = rw (is, none) (gathers_none R (removals start entries))
-
-pub lists_none : (start : World) (entries : List Entry) (clock : ℕ) (rows : List Removed) → rows ≡ [] → clock ≡ start.now → IsLegal start entries → Lists (removals start entries) entries clock rows
-lists_none start entries clock rows none is legal = rw none record { w = start; time = record { now = is; legal = legal }; gathers = gathers_none IsBare (removals start entries) }
-
-pub lists_done : (all : List (World × Key)) (entries : List Entry) (i clock : ℕ) (rows : List Removed) → length entries ≤ i → Lists all (drop i entries) clock rows → AllZip IsBare all rows
-lists_done all entries i clock rows le so = replays_done IsBare all so.w entries i rows le so.gathers
 
 pub seeks_begin : (number : ℕ) (start : World) (entries : List Entry) (clock : ℕ) → clock ≡ start.now → IsLegal start entries → Seeks number start entries entries clock
 seeks_begin number start entries clock is legal = record { w = start; time = record { now = is; legal = legal }; same = refl }
@@ -147,17 +109,3 @@ each_more R all i x rows more row lt is of more_is so = gathers_more R all (drop
 
 pub each_done : {A B : Type 0} (R : A → B → Type 0) (all : List A) (i : ℕ) (rows : List B) → length all ≤ i → Gathers R all (drop i all) rows → AllZip R all rows
 each_done R all i rows le so = gathers_done R all (drop i all) rows (left_none all i le) so
-
--- ---- what a row says
-
-pub explained_rows : {A E : Type 0} (past : Past) (r : Result (Vec Removed A) E) → past.folded ≡ 0 → IfOk r (λ rows. AllZip IsExplained (removals past.base past.entries) rows.items) → IfOk r (λ rows. AreRemoved past rows.items)
-explained_rows past (Ok rows) none are = rw none are
-explained_rows past (Err e) none are = are
-
-by_folded : (folded : ℕ) (all : List (World × Key)) (rows : List Removed) → (folded ≡ 0 → ⊥) → AllZip IsBare all rows → AllZip (IsRow folded) all rows
-by_folded zero all rows some are = absurd (some refl)
-by_folded (suc folded) all rows some are = are
-
-pub bare_rows : {A E : Type 0} (past : Past) (r : Result (Vec Removed A) E) → (past.folded ≡ 0 → ⊥) → IfOk r (λ rows. AllZip IsBare (removals past.base past.entries) rows.items) → IfOk r (λ rows. AreRemoved past rows.items)
-bare_rows past (Ok rows) some are = by_folded past.folded (removals past.base past.entries) rows.items some are
-bare_rows past (Err e) some are = are

@@ -1,5 +1,5 @@
 -- The bytes of the lines of an audit, part after part.
-use Rattle.ele_audit.proofs.Basics.{arith, nat_tests, ◌≡◌, ℕ, List, [], ◌∷◌, ◌++◌, append_assoc, codes, decimal, refl, sym, ap, ◌∙◌, Option, Some, None, join_with_byte}
+use Rattle.ele_audit.proofs.Basics.{arith, nat_tests, ◌≡◌, ℕ, List, [], ◌∷◌, ◌++◌, append_assoc, codes, decimal, refl, sym, ap, ◌∙◌, Option, Some, None}
 use Rattle.ele_audit.specs.AuditText.{gone_words, handle_line, path_or_dash, read_word, removed_line, why_gone_text}
 use Rattle.ele_audit.specs.LivePath.{names_in}
 use Rattle.ele_audit.specs.Open.{file_of}

@@ -1,10 +1,10 @@
 -- Histories without removals or open handles, and the removal of one version.
-use Rattle.ele_audit.proofs.Basics.{List, [], ap, refl, sym, subst, ℕ, ◌++◌, ◌∷◌, ◌≡◌, ◌∙◌, Option, Some, None, Bool, true, false, zero, suc, find, option_and_then, if◌then◌else◌}
+use Rattle.ele_audit.proofs.Basics.{List, [], ap, refl, ℕ, ◌++◌, ◌∷◌, ◌≡◌, ◌∙◌, Option, Some, None, Bool, true, false, find, option_and_then, if◌then◌else◌}
 use Rattle.std.specs.Prelude.{◌||◌, ◌&&◌, ◌==◌, Result, Ok, Err}
 use Rattle.std.specs.List.{AllZip, list_any}
 use Rattle.std.specs.Result.{result_ok}
 use Rattle.ele_audit.specs.Open.{AreOpen}
-use Rattle.ele_audit.specs.Removals.{AreRemoved, IsRemovedVersion, IsRow, IsRowIf, is_removal, is_removal_of, removal_at, removal_in, removals, removes_number}
+use Rattle.ele_audit.specs.Removals.{AreRemoved, IsExplained, IsRemovedVersion, IsRowIf, is_removal, is_removal_of, removal_at, removal_in, removals, removes_number}
 use Rattle.ele_audit.specs.Rows.{is_row_of}
 use Rattle.ele_audit.specs.declared.row.OpenHandle.{OpenHandle}
 use Rattle.ele_audit.specs.declared.row.Removed.{Removed}
@@ -17,7 +17,6 @@ use Rattle.ele_model.specs.declared.reply.Reply.TheVariants as reply
 use Rattle.ele_model.specs.Step.{step}
 use Rattle.ele_model.specs.Walk.{file_now}
 use Rattle.ele_model.specs.World.{World}
-use Rattle.ele_path.specs.declared.tagged.Tag.{Tag}
 use Rattle.ele_path.specs.declared.tagged.Tag.TheVariants as tag
 use Rattle.ele_path.specs.declared.tagged.TaggedPath.{TaggedPath}
 
@@ -75,29 +74,28 @@ no_version past tagged number is none = rw (is, none_at (file_now (world_of past
 
 -- ---- the row of a number
 
-same_key : (folded file number : ℕ) (removal : World × Key) (row : Removed) → IsRow folded removal row → is_row_of file number row ≡ is_removal_of file number removal
-same_key zero file number removal row is = ap (λ (key : Key). (key.file == file) && (key.number == number)) is.is.key
-same_key (suc folded) file number removal row is = ap (λ (key : Key). (key.file == file) && (key.number == number)) is.is.key
+same_key : (file number : ℕ) (removal : World × Key) (row : Removed) → IsExplained removal row → is_row_of file number row ≡ is_removal_of file number removal
+same_key file number removal row is = ap (λ (key : Key). (key.file == file) && (key.number == number)) is.is.key
 
-row_found : (folded file number : ℕ) (all : List (World × Key)) (rows : List Removed) → AllZip (IsRow folded) all rows
-    → IsRowIf folded (find (is_removal_of file number) all) (find (is_row_of file number) rows)
-row_found folded file number [] [] are = tt
-row_found folded file number [] (row ∷ rows) are = absurd are
-row_found folded file number (removal ∷ all) [] are = absurd are
-row_found folded file number (removal ∷ all) (row ∷ rows) are =
-    rw (same_key folded file number removal row are.0) (by (is_removal_of file number removal) (row_found folded file number all rows are.1)) where
-      by : (is : Bool) → IsRowIf folded (find (is_removal_of file number) all) (find (is_row_of file number) rows)
-          → IsRowIf folded (if is then Some removal else find (is_removal_of file number) all) (if is then Some row else find (is_row_of file number) rows)
+row_found : (file number : ℕ) (all : List (World × Key)) (rows : List Removed) → AllZip IsExplained all rows
+    → IsRowIf (find (is_removal_of file number) all) (find (is_row_of file number) rows)
+row_found file number [] [] are = tt
+row_found file number [] (row ∷ rows) are = absurd are
+row_found file number (removal ∷ all) [] are = absurd are
+row_found file number (removal ∷ all) (row ∷ rows) are =
+    rw (same_key file number removal row are.0) (by (is_removal_of file number removal) (row_found file number all rows are.1)) where
+      by : (is : Bool) → IsRowIf (find (is_removal_of file number) all) (find (is_row_of file number) rows)
+          → IsRowIf (if is then Some removal else find (is_removal_of file number) all) (if is then Some row else find (is_row_of file number) rows)
       by true rest = are.0
       by false rest = rest
 
-row_of_file : (folded number : ℕ) (found : Result ℕ Refusal) (all : List (World × Key)) (rows : List Removed) → AllZip (IsRow folded) all rows
-    → IsRowIf folded (removal_at found (tag.Number number) all) (option_and_then (λ file. find (is_row_of file number) rows) (result_ok found))
-row_of_file folded number (Ok file) all rows are = row_found folded file number all rows are
-row_of_file folded number (Err refusal) all rows are = tt
+row_of_file : (number : ℕ) (found : Result ℕ Refusal) (all : List (World × Key)) (rows : List Removed) → AllZip IsExplained all rows
+    → IsRowIf (removal_at found (tag.Number number) all) (option_and_then (λ file. find (is_row_of file number) rows) (result_ok found))
+row_of_file number (Ok file) all rows are = row_found file number all rows are
+row_of_file number (Err refusal) all rows are = tt
 
 pub row_means : (past : Past) (tagged : TaggedPath) (rows : List Removed) (file : Option ℕ) (number : ℕ) (row : Option Removed) → AreRemoved past rows
     → file ≡ result_ok (file_now (world_of past).names tagged.path) → tagged.tag ≡ tag.Number number → row ≡ option_and_then (λ file. find (is_row_of file number) rows) file
     → IsRemovedVersion past tagged row
 row_means past tagged rows file number row are file_is tag_is row_is =
-    rw (row_is, file_is, tag_is) (row_of_file past.folded number (file_now (world_of past).names tagged.path) (removals past.base past.entries) rows are)
+    rw (row_is, file_is, tag_is) (row_of_file number (file_now (world_of past).names tagged.path) (removals past.base past.entries) rows are)

@@ -1,5 +1,5 @@
 -- The versions that the stored entries of a history removed.
-use Rattle.std.specs.Prelude.{◌≡◌, ℕ, zero, suc, true, false, List, [], ◌∷◌, ◌++◌, Option, Some, None, find, ◌&&◌, ◌==◌, Bool, Result, Ok}
+use Rattle.std.specs.Prelude.{◌≡◌, ℕ, true, false, List, [], ◌∷◌, ◌++◌, Option, Some, None, find, ◌&&◌, ◌==◌, Bool, Result, Ok}
 use Rattle.ele_due.specs.declared.key.Key.{Key}
 use Rattle.ele_history.specs.Past.{Past, world_of}
 use Rattle.ele_model.specs.declared.entry.Entry.{Entry}
@@ -43,26 +43,15 @@ pub record IsRemoval (removal : World × Key) (row : Removed) : Type 0 where
   pub at : row.at ≡ removal.0.now
   pub key : row.key ≡ removal.1
 
--- and where the world before it is known, the path that led to the file then, and what had become of the version
+-- and the path that led to the file in the world before it, and what had become of the version
 pub record IsExplained (removal : World × Key) (row : Removed) : Type 0 where
   pub is : IsRemoval removal row
   pub path : names_in row.path ≡ live_path removal.0.names (File removal.1.file)
   pub fate : MayHaveFate removal.0 removal.1 row.fate
 
--- or neither, where entries were folded
-pub record IsBare (removal : World × Key) (row : Removed) : Type 0 where
-  pub is : IsRemoval removal row
-  pub path : row.path ≡ None
-  pub fate : row.fate ≡ None
-
--- what a row says, after so many entries were folded
-abbrev pub IsRow : ℕ → World × Key → Removed → Type 0
-IsRow zero removal row = IsExplained removal row
-IsRow (suc folded) removal row = IsBare removal row
-
 -- the rows are those of the removals among the stored entries, in order
 abbrev pub AreRemoved : Past → List Removed → Type 0
-AreRemoved past rows = AllZip (IsRow past.folded) (removals past.base past.entries) rows
+AreRemoved past rows = AllZip IsExplained (removals past.base past.entries) rows
 
 -- ---- of one version
 
@@ -76,15 +65,15 @@ removal_at (Ok file) (tag.Number number) all = find (is_removal_of file number) 
 removal_at found tag all = None
 
 -- the row is that of the removal; without a removal there is none
-abbrev pub IsRowIf : ℕ → Option (World × Key) → Option Removed → Type 0
-IsRowIf folded None None = Unit {0}
-IsRowIf folded (Some removal) (Some row) = IsRow folded removal row
-IsRowIf folded removal row = ⊥
+abbrev pub IsRowIf : Option (World × Key) → Option Removed → Type 0
+IsRowIf None None = Unit {0}
+IsRowIf (Some removal) (Some row) = IsExplained removal row
+IsRowIf removal row = ⊥
 
 -- the row of the removed version that the path and its tag mean now
 abbrev pub IsRemovedVersion : Past → TaggedPath → Option Removed → Type 0
 IsRemovedVersion past tagged row =
-    IsRowIf past.folded (removal_at (file_now (world_of past).names tagged.path) tagged.tag (removals past.base past.entries)) row
+    IsRowIf (removal_at (file_now (world_of past).names tagged.path) tagged.tag (removals past.base past.entries)) row
 
 -- ---- what takes memory
 

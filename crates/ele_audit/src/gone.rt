@@ -3,23 +3,26 @@ ghost use Rattle.std.specs.Prelude.{◌≡◌, ◌++◌, IfOk, OnErr, List};
 ghost use Rattle.ele_audit.specs.Clock.{clock_after};
 ghost use Rattle.std.specs.List.{AllZip, list_any};
 ghost use Rattle.ele_model.specs.World.{World};
-ghost use Rattle.ele_audit.specs.Removals.{AreRemoved, HasRemovals, IsBare, IsExplained, is_removal, removal_in, removals};
+ghost use Rattle.ele_audit.specs.Removals.{AreRemoved, HasRemovals, IsExplained, is_removal, removal_in};
 
 use crate::path::path_of;
 use crate::row::Removed;
 use ele_history::History;
-use ele_model::{Entry, Explain, Key, NoMemory, Reply, Step, Target};
+use ele_model::{Entry, Explain, FromFlat, Key, NoMemory, Reply, Target};
 use ele_moment::Moment;
+use ele_world::laws;
 use std::alloc::Global;
 
-/// Returns the versions that the stored entries removed, in order. If entries were folded, the rows
-/// have neither path nor fate.
+/// Returns the versions that the stored entries removed, in order.
 ///
 /// `NoMemory` if memory is refused. If no stored entry removed a version, it takes none.
-/// Cost: if nothing is folded, that of all stored events on a second core, and for each removal a
-/// copy of the rows of names. Else it scans the entries.
+/// Cost: that of a core made of the base and of all stored events on it, and for each removal a copy
+/// of the rows of names.
 #[tactic(auto, using(crate::proofs::Numbered::no_rows))]
-pub fn removed<C: Explain>(alloc: Global, history: &History<C>) -> Result<Vec<Removed>, NoMemory>
+pub fn removed<C: Explain + FromFlat>(
+    alloc: Global,
+    history: &History<C>,
+) -> Result<Vec<Removed>, NoMemory>
     ensures ok { IfOk result (λ rows. AreRemoved history.now rows.items) }
     ensures err { OnErr result (HasRemovals history.now) }
 {
@@ -46,24 +49,16 @@ fn is_removal(reply: &Reply) -> bool
     }
 }
 
-// The removed versions, by all entries on a second core, or by the replies alone.
-fn gathered<C: Explain>(alloc: Global, history: &History<C>) -> Result<Vec<Removed>, NoMemory>
+// The removed versions, by all entries on a second core, which is made of the base.
+fn gathered<C: Explain + FromFlat>(
+    alloc: Global,
+    history: &History<C>,
+) -> Result<Vec<Removed>, NoMemory>
     ensures { IfOk result (λ rows. AreRemoved history.now rows.items) }
 {
-    if history.folded() == 0 {
-        replayed(alloc, history)
-    } else {
-        listed(alloc, history)
-    }
-}
-
-// The removed versions, by all entries on a second core.
-fn replayed<C: Explain>(alloc: Global, history: &History<C>) -> Result<Vec<Removed>, NoMemory>
-    requires { history.now.folded ≡ 0 }
-    ensures { IfOk result (λ rows. AllZip IsExplained
-        (removals history.now.base history.now.entries) rows.items) }
-{
-    let mut core = C::fresh(alloc, history.base().limits)?;
+    // For the proof: events led to the base, so a run may go on in it.
+    laws::start_stays();
+    let mut core = C::from_flat(alloc, history.base())?;
     let mut rows = Vec::new(alloc);
     let entries = history.entries();
     for entry in entries {
@@ -102,38 +97,6 @@ fn explained<C: Explain>(alloc: Global, core: &C, key: Key) -> Result<Removed, N
         path,
         fate: core.fate(key.file, key.number),
     })
-}
-
-// The removed versions, by the replies alone.
-fn listed<C: Step>(alloc: Global, history: &History<C>) -> Result<Vec<Removed>, NoMemory>
-    ensures { IfOk result (λ rows. AllZip IsBare
-        (removals history.now.base history.now.entries) rows.items) }
-{
-    let mut clock = history.base().now;
-    let mut rows = Vec::new(alloc);
-    let entries = history.entries();
-    for entry in entries {
-        note(&entry.reply, clock, &mut rows)?;
-        clock = clock_after(&entry.reply, clock);
-    }
-    Ok(rows)
-}
-
-// Pushes the row of what the reply removes at the moment.
-fn note(reply: &Reply, at: Moment, rows: &mut Vec<Removed>) -> Result<(), NoMemory>
-    ensures { IfOk result (λ _. (added : List Removed)
-        × ((w : World) → at ≡ w.now → AllZip IsBare (removal_in w reply.now) added)
-        × (rows.new.items ≡ rows.old.items ++ added)) }
-{
-    if let Reply::Removed(key) = reply {
-        rows.push(Removed {
-            at,
-            key: *key,
-            path: None,
-            fate: None,
-        })?;
-    }
-    Ok(())
 }
 
 // The moment after an event with the reply.

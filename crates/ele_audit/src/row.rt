@@ -9,10 +9,9 @@ pub struct Removed {
     pub at: Moment,
     /// Its file, its number, and the first moment at which it was due.
     pub key: Key,
-    /// The path that led to its file just before. None if no live names did, or if entries were
-    /// folded.
+    /// The path that led to its file just before. None if no live names did.
     pub path: Option<Vec<Name>>,
-    /// Why it was due. None if entries were folded.
+    /// Why it was due.
     pub fate: Option<Fate>,
 }
 

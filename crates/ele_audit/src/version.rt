@@ -11,7 +11,7 @@ ghost use Rattle.ele_model.specs.Walk.{file_now, live_target, walk};
 use crate::gone::removed;
 use crate::row::Removed;
 use ele_history::History;
-use ele_model::{Entry, Explain, NameRow, NoMemory, Reply, Target};
+use ele_model::{Entry, Explain, FromFlat, NameRow, NoMemory, Reply, Target};
 use ele_moment::{DirId, FileId, Name, VersionNo};
 use ele_path::{Tag, TaggedPath};
 use std::alloc::Global;
@@ -22,7 +22,7 @@ use std::alloc::Global;
 /// `NoMemory` if memory is refused. If no stored entry removed a version with that number, it takes
 /// none.
 /// Cost: that of `removed`, a copy of the rows of names, and a scan of these for each name.
-pub fn removed_version<C: Explain>(
+pub fn removed_version<C: Explain + FromFlat>(
     alloc: Global,
     tagged: &TaggedPath,
     history: &History<C>,
@@ -37,7 +37,7 @@ pub fn removed_version<C: Explain>(
 }
 
 // The removed version of that number, which the tag has.
-fn numbered<C: Explain>(
+fn numbered<C: Explain + FromFlat>(
     alloc: Global,
     tagged: &TaggedPath,
     number: VersionNo,

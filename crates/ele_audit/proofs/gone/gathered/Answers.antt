@@ -1,9 +1,20 @@
-use Rattle.ele_audit.proofs.Basics.{◌∙◌, sym}
-use Rattle.ele_audit.proofs.Gathers.{bare_rows, explained_rows}
+use Rattle.ele_audit.proofs.Basics.{arith, sym, ◌∙◌, ap}
+use Rattle.ele_audit.proofs.Gathers.{replays_done, replays_more, replays_none}
+use Rattle.ele_audit.specs.Removals.{IsExplained, removals}
 use Rattle.ele_audit.proofs.gone.gathered.Goals as goal
 
-pub returns-then-folded-eq0 : goal.returns-then-folded-eq0
-returns-then-folded-eq0 g c = explained_rows c.args.history.now c.replayed.result (sym c.folded.ensures ∙ c.if-folded-eq0.true) c.replayed.ensures
+pub loop-entry-init : goal.loop-entry-init
+loop-entry-init g c =
+    replays_none IsExplained c.args.history.now.base (g.C.Step.world c.in_ok-core.core) c.entries-entries.result.now c.new-rows.result.items c.new-rows.ensures.items
+    (c.in_ok-core.ensures ∙ c.base.ensures.value)
 
-pub returns-else-folded-eq0 : goal.returns-else-folded-eq0
-returns-else-folded-eq0 g c = bare_rows c.args.history.now c.listed.result (λ none. c.if-folded-eq0.false (c.folded.ensures ∙ none)) c.listed.ensures
+pub loop-entry-preserved : goal.loop-entry-preserved
+loop-entry-preserved g c =
+    replays_more IsExplained (removals c.args.history.now.base c.entries-entries.result.now) (g.C.Step.world c.loop-entry.core) (g.C.Step.world c.apply.new.self) c.entries-entries.result.now c.loop-entry.entry-index c.entry-item.result
+    c.loop-entry.rows.items c.in_ok-explain.ensures.0 c.explain.new.rows.items (omega arith) c.entry-item.is (ap (λ answer. answer.1) c.in_ok-_reply.ensures.step) c.in_ok-explain.ensures.1 c.in_ok-explain.ensures.2 c.loop-entry.invariant
+
+pub returns : goal.returns
+returns g c = rw (sym c.entries-entries.ensures.value) (replays_done IsExplained (removals c.args.history.now.base c.entries-entries.result.now) (g.C.Step.world c.loop-entry.core) c.entries-entries.result.now c.loop-entry.entry-index c.loop-entry.rows.items c.loop-entry-test.false c.loop-entry.invariant)
+
+pub from_flat-requires : goal.from_flat-requires
+from_flat-requires g c = rw c.base.ensures.value (c.start_stays.ensures.reached c.args.history.now.base c.base.ensures.reached.reached)

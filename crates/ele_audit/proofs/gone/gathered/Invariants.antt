@@ -1,7 +1,7 @@
 use Rattle.ele_audit.proofs.Basics.{drop}
 use Rattle.ele_audit.proofs.Gathers.{Gathers}
 use Rattle.ele_audit.specs.Removals.{IsExplained, removals}
-use Rattle.ele_audit.proofs.gone.replayed.Given as goal
+use Rattle.ele_audit.proofs.gone.gathered.Given as goal
 
 -- the rows of the entries so far are there, and the core's world is the one after them
 abbrev pub invariant-loop-entry : goal.invariant-loop-entry
