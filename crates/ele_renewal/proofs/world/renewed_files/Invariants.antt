@@ -1,0 +1,5 @@
+use Rattle.ele_renewal.proofs.Words.{map, renewed_file, take, ◌≡◌}
+use Rattle.ele_renewal.proofs.world.renewed_files.Given as goal
+
+abbrev pub invariant-loop-row : goal.invariant-loop-row
+invariant-loop-row l = l.fresh.items ≡ map (renewed_file l.flat) (take l.row-index l.rows)

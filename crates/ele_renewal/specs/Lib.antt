@@ -1,0 +1,10 @@
+pub mod Across
+pub mod Example
+pub mod Numbers
+pub mod Renewed
+pub mod RenewedIsStart
+pub mod SamePast
+pub mod SameRestorable
+pub mod SameScan
+pub mod SameUsage
+pub mod Writers
