@@ -16,12 +16,12 @@ use Rattle.ele_checkpoint.proofs.Forms.{bind_ok, guard_ok, ok_is}
 use Rattle.ele_checkpoint.proofs.Lists.{list_form}
 use Rattle.ele_journal.specs.declared.fault.Fault.{Fault}
 use Rattle.ele_journal.specs.declared.fault.Fault.TheVariants as faults
-use Rattle.ele_journal.specs.Changes.{AreChanges, IsChange, after_change, change_text, changes_text, check_of, events_text, last_check, linked, size_check, size_text}
+use Rattle.ele_journal.specs.Changes.{AreChanges, IsChange, IsEncodable, after_change, change_text, changes_text, check_of, events_text, last_check, linked, size_check, size_text}
 use Rattle.ele_journal.specs.ChangesRead.{IsReadChange}
 use Rattle.ele_journal.specs.Events.{event_text}
 use Rattle.ele_journal.specs.EventsRead.{event_at, events_at}
 use Rattle.ele_journal.specs.Recovered.{Agree, IsEnd, IsTorn}
-use Rattle.ele_journal.proofs.EventForms.{event_form}
+use Rattle.ele_journal.proofs.EventForms.{event_form, list_changes}
 
 -- ---- the events of a change
 
@@ -31,7 +31,7 @@ then_ok false d r y e = absurd cc
 
 pub record Takes (bytes : List ℕ) (change : List Event) : Type 0 where
   pub text : bytes ≡ events_text change
-  pub some : 0 < length change
+  pub encodable : IsEncodable change
 
 pub events_take : (bytes : List ℕ) (change : List Event) → events_at bytes ≡ Ok change → Takes bytes change
 unfolding events_at
@@ -42,7 +42,7 @@ events_take bytes change e =
     let nothing : s.0.1 ≡ [] = nil_from_length s.0.1 (eqb-true _ _ g.0) in
     let some : length s.0.0 ≡ 0 → ⊥ = eqb-false _ _ h.0 in
     let all : bytes ≡ events_text s.0.0 = (list_form event_form).takes bytes s.0.0 s.0.1 s.1 ∙ ap (λ (t : List ℕ). events_text s.0.0 ++ t) nothing ∙ append-nil (events_text s.0.0) in
-    subst (Takes bytes) (ok_is s.0.0 change h.1) (record { text = all; some = omega arith })
+    subst (Takes bytes) (ok_is s.0.0 change h.1) (record { text = all; encodable = record { some = omega arith; changing = list_changes bytes s.0.0 s.0.1 s.1 } })
 
 pub events_again : (change : List Event) → IsChange change → events_at (events_text change) ≡ Ok change
 unfolding events_at
@@ -167,7 +167,7 @@ none_whole before rest (Some faults.Cut) change after is end e =
           let short = t.3 in
           omega arith
     ]
-none_whole before rest (Some (faults.Damaged damage)) change after is end e = end change is (inl (after, e))
+none_whole before rest (Some (faults.Damaged damage)) change after is end e = end.0 change is (inl (after, e))
 
 pub record Ends (before rest : List ℕ) (fault : Option Fault) (others : List (List Event)) : Type 0 where
   pub no_more : (next : List Event) (last : List (List Event)) → others ≡ next ∷ last → length rest < length (change_text before next)

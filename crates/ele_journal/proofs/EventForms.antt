@@ -1,5 +1,6 @@
 -- An event is read as it was written, and no other bytes stand for it.
 use Rattle.std.proofs.Common.{◌≡◌, ℕ, zero, suc, ◌<◌, ◌≤◌, Bool, true, false, cond, eqb, ltb, leb, List, [], ◌∷◌, ◌++◌, length, Result, Ok, Err, refl, sym, ap, subst, ◌∙◌, append_assoc, arith, inl, inr, ◌⊎◌}
+use Rattle.std.specs.List.{list_all}
 use Rattle.std.proofs.lemmas.Bool.{cases_lt, le-leb, le-ltb, ne_eqb}
 use Rattle.std.proofs.lemmas.List.Elements.{recursion_from_All}
 use Rattle.ele_moment.specs.Name.{IsName}
@@ -15,7 +16,7 @@ use Rattle.ele_checkpoint.specs.Fits.{IsNumber, IsMoment, IsMaybe, AreItems}
 use Rattle.ele_checkpoint.specs.Number.{number_text}
 use Rattle.ele_checkpoint.specs.Lists.{list_text}
 use Rattle.ele_checkpoint.specs.Values.{string_text, maybe_text, policy_text}
-use Rattle.ele_checkpoint.specs.PartsRead.{list_at, number_at, moment_at, maybe_at, name_at, policy_at, string_at}
+use Rattle.ele_checkpoint.specs.PartsRead.{items_at, list_at, number_at, moment_at, maybe_at, name_at, policy_at, string_at}
 use Rattle.ele_checkpoint.specs.Reading.{◌>>=◌, mistake}
 use Rattle.ele_checkpoint.proofs.Forms.{IsForm, bind_ok, test_ok, ok_is, both}
 use Rattle.ele_checkpoint.proofs.Grouped.{grouped2, grouped3}
@@ -23,7 +24,7 @@ use Rattle.ele_checkpoint.proofs.Numbers.{number_form}
 use Rattle.ele_checkpoint.proofs.Lists.{list_form}
 use Rattle.ele_checkpoint.proofs.Values.{string_form, moment_form, maybe_form, name_form}
 use Rattle.ele_checkpoint.proofs.Policies.{policy_form}
-use Rattle.ele_journal.specs.Events.{names_text, tag_text, event_text, IsTag, IsText, IsEvent}
+use Rattle.ele_journal.specs.Events.{names_text, tag_text, changes, event_text, IsTag, IsText, IsEvent}
 use Rattle.ele_journal.specs.EventsRead.{names_at, tag_at, of_path, path_event_at, paths_event_at, number_event_at, clock_at, truncate_at, write_at, save_at, revert_at, restore_at, policy_event_at, open_read_at, group_event_at, member_event_at, mark_at, unmark_at, session_event_at, rule_event_at, event_at}
 
 -- ---- paths and tags
@@ -74,16 +75,21 @@ Text A = A → List ℕ
 abbrev At : Type 0 → Type 0
 At A = List ℕ → Result (A × List ℕ) Mistake
 
+record IsTaken (kind : ℕ) (bytes : List ℕ) (x : Event) (rest : List ℕ) : Type 0 where
+  pub text : kind ∷ bytes ≡ event_text x ++ rest
+  pub changing : changes x ≡ true
+
 abbrev made : Event → List ℕ → Result (Event × List ℕ) Mistake
 made x rest = Ok (x, rest)
 
 take_one : {A : Type 0} {ta : Text A} {aa : At A} {FA : A → Type 0} (fa : IsForm ta aa FA) (make : A → Event) (kind : ℕ)
     → ((a : A) → event_text (make a) ≡ kind ∷ ta a)
-    → (bytes : List ℕ) (x : Event) (rest : List ℕ) → (aa bytes >>= λ a. made (make a.0) a.1) ≡ Ok (x, rest) → kind ∷ bytes ≡ event_text x ++ rest
-take_one {A} {ta} {aa} {FA} fa make kind is bytes x rest e =
+    → ((a : A) → changes (make a) ≡ true)
+    → (bytes : List ℕ) (x : Event) (rest : List ℕ) → (aa bytes >>= λ a. made (make a.0) a.1) ≡ Ok (x, rest) → IsTaken kind bytes x rest
+take_one {A} {ta} {aa} {FA} fa make kind is may bytes x rest e =
     let s = bind_ok (aa bytes) (λ a. made (make a.0) a.1) (x, rest) e in
     let whole : kind ∷ bytes ≡ event_text (make s.0.0) ++ s.0.1 = ap (λ (t : List ℕ). kind ∷ t) (fa.takes bytes s.0.0 s.0.1 s.1) ∙ ap (λ (t : List ℕ). t ++ s.0.1) (sym (is s.0.0)) in
-    subst (λ (y : Event × List ℕ). kind ∷ bytes ≡ event_text y.0 ++ y.1) (ok_is (make s.0.0, s.0.1) (x, rest) s.2) whole
+    subst (λ (y : Event × List ℕ). IsTaken kind bytes y.0 y.1) (ok_is (make s.0.0, s.0.1) (x, rest) s.2) (record { text = whole; changing = may s.0.0 })
 
 again_one : {A : Type 0} {ta : Text A} {aa : At A} {FA : A → Type 0} (fa : IsForm ta aa FA) (make : A → Event) (a : A) (rest : List ℕ) → FA a
     → (aa (ta a ++ rest) >>= λ a. made (make a.0) a.1) ≡ Ok (make a, rest)
@@ -91,13 +97,14 @@ again_one {A} {ta} {aa} {FA} fa make a rest fits = rw (fa.again a rest fits) ref
 
 take_two : {A B : Type 0} {ta : Text A} {aa : At A} {FA : A → Type 0} {tb : Text B} {ab : At B} {FB : B → Type 0} (fa : IsForm ta aa FA) (fb : IsForm tb ab FB) (make : A → B → Event) (kind : ℕ)
     → ((a : A) (b : B) → event_text (make a b) ≡ kind ∷ (ta a ++ tb b))
-    → (bytes : List ℕ) (x : Event) (rest : List ℕ) → (aa bytes >>= λ a. ab a.1 >>= λ b. made (make a.0 b.0) b.1) ≡ Ok (x, rest) → kind ∷ bytes ≡ event_text x ++ rest
-take_two {A} {B} {ta} {aa} {FA} {tb} {ab} {FB} fa fb make kind is bytes x rest e =
+    → ((a : A) (b : B) → changes (make a b) ≡ true)
+    → (bytes : List ℕ) (x : Event) (rest : List ℕ) → (aa bytes >>= λ a. ab a.1 >>= λ b. made (make a.0 b.0) b.1) ≡ Ok (x, rest) → IsTaken kind bytes x rest
+take_two {A} {B} {ta} {aa} {FA} {tb} {ab} {FB} fa fb make kind is may bytes x rest e =
     let s = bind_ok (aa bytes) (λ a. ab a.1 >>= λ b. made (make a.0 b.0) b.1) (x, rest) e in
     let t = bind_ok (ab s.0.1) (λ b. made (make s.0.0 b.0) b.1) (x, rest) s.2 in
     let all = both bytes (ta s.0.0) s.0.1 (tb t.0.0) t.0.1 (fa.takes bytes s.0.0 s.0.1 s.1) (fb.takes s.0.1 t.0.0 t.0.1 t.1) in
     let whole : kind ∷ bytes ≡ event_text (make s.0.0 t.0.0) ++ t.0.1 = ap (λ (t : List ℕ). kind ∷ t) all ∙ ap (λ (u : List ℕ). u ++ t.0.1) (sym (is s.0.0 t.0.0)) in
-    subst (λ (y : Event × List ℕ). kind ∷ bytes ≡ event_text y.0 ++ y.1) (ok_is (make s.0.0 t.0.0, t.0.1) (x, rest) t.2) whole
+    subst (λ (y : Event × List ℕ). IsTaken kind bytes y.0 y.1) (ok_is (make s.0.0 t.0.0, t.0.1) (x, rest) t.2) (record { text = whole; changing = may s.0.0 t.0.0 })
 
 again_two : {A B : Type 0} {ta : Text A} {aa : At A} {FA : A → Type 0} {tb : Text B} {ab : At B} {FB : B → Type 0} (fa : IsForm ta aa FA) (fb : IsForm tb ab FB) (make : A → B → Event) (a : A) (b : B) (rest : List ℕ)
     → FA a → FB b → (aa (ta a ++ tb b ++ rest) >>= λ a. ab a.1 >>= λ b. made (make a.0 b.0) b.1) ≡ Ok (make a b, rest)
@@ -108,15 +115,16 @@ again_two {A} {B} {ta} {aa} {FA} {tb} {ab} {FB} fa fb make a b rest fits fits' =
 take_three : {A B C : Type 0} {ta : Text A} {aa : At A} {FA : A → Type 0} {tb : Text B} {ab : At B} {FB : B → Type 0} {tc : Text C} {ac : At C} {FC : C → Type 0}
     (fa : IsForm ta aa FA) (fb : IsForm tb ab FB) (fc : IsForm tc ac FC) (make : A → B → C → Event) (kind : ℕ)
     → ((a : A) (b : B) (c : C) → event_text (make a b c) ≡ kind ∷ (ta a ++ tb b ++ tc c))
-    → (bytes : List ℕ) (x : Event) (rest : List ℕ) → (aa bytes >>= λ a. ab a.1 >>= λ b. ac b.1 >>= λ c. made (make a.0 b.0 c.0) c.1) ≡ Ok (x, rest) → kind ∷ bytes ≡ event_text x ++ rest
-take_three {A} {B} {C} {ta} {aa} {FA} {tb} {ab} {FB} {tc} {ac} {FC} fa fb fc make kind is bytes x rest e =
+    → ((a : A) (b : B) (c : C) → changes (make a b c) ≡ true)
+    → (bytes : List ℕ) (x : Event) (rest : List ℕ) → (aa bytes >>= λ a. ab a.1 >>= λ b. ac b.1 >>= λ c. made (make a.0 b.0 c.0) c.1) ≡ Ok (x, rest) → IsTaken kind bytes x rest
+take_three {A} {B} {C} {ta} {aa} {FA} {tb} {ab} {FB} {tc} {ac} {FC} fa fb fc make kind is may bytes x rest e =
     let s = bind_ok (aa bytes) (λ a. ab a.1 >>= λ b. ac b.1 >>= λ c. made (make a.0 b.0 c.0) c.1) (x, rest) e in
     let t = bind_ok (ab s.0.1) (λ b. ac b.1 >>= λ c. made (make s.0.0 b.0 c.0) c.1) (x, rest) s.2 in
     let u = bind_ok (ac t.0.1) (λ c. made (make s.0.0 t.0.0 c.0) c.1) (x, rest) t.2 in
     let all = both bytes (ta s.0.0) s.0.1 (tb t.0.0) t.0.1 (fa.takes bytes s.0.0 s.0.1 s.1) (fb.takes s.0.1 t.0.0 t.0.1 t.1) in
     let more = both bytes (ta s.0.0 ++ tb t.0.0) t.0.1 (tc u.0.0) u.0.1 all (fc.takes t.0.1 u.0.0 u.0.1 u.1) in
     let whole : kind ∷ bytes ≡ event_text (make s.0.0 t.0.0 u.0.0) ++ u.0.1 = ap (λ (t : List ℕ). kind ∷ t) more ∙ ap (λ (v : List ℕ). v ++ u.0.1) (sym (is s.0.0 t.0.0 u.0.0)) in
-    subst (λ (y : Event × List ℕ). kind ∷ bytes ≡ event_text y.0 ++ y.1) (ok_is (make s.0.0 t.0.0 u.0.0, u.0.1) (x, rest) u.2) whole
+    subst (λ (y : Event × List ℕ). IsTaken kind bytes y.0 y.1) (ok_is (make s.0.0 t.0.0 u.0.0, u.0.1) (x, rest) u.2) (record { text = whole; changing = may s.0.0 t.0.0 u.0.0 })
 
 again_three : {A B C : Type 0} {ta : Text A} {aa : At A} {FA : A → Type 0} {tb : Text B} {ab : At B} {FB : B → Type 0} {tc : Text C} {ac : At C} {FC : C → Type 0}
     (fa : IsForm ta aa FA) (fb : IsForm tb ab FB) (fc : IsForm tc ac FC) (make : A → B → C → Event) (a : A) (b : B) (c : C) (rest : List ℕ)
@@ -127,9 +135,9 @@ again_three {A} {B} {C} {ta} {aa} {FA} {tb} {ab} {FB} {tc} {ac} {FC} fa fb fc ma
 
 -- ---- every kind
 
--- what is read with this kind before it is spelled so
+-- what is read with this kind before it is spelled so, and may change a world
 abbrev Takes : ℕ → Type 0
-Takes kind = (bytes : List ℕ) (x : Event) (rest : List ℕ) → event_at (kind ∷ bytes) ≡ Ok (x, rest) → kind ∷ bytes ≡ event_text x ++ rest
+Takes kind = (bytes : List ℕ) (x : Event) (rest : List ℕ) → event_at (kind ∷ bytes) ≡ Ok (x, rest) → IsTaken kind bytes x rest
 
 one_more : (n : ℕ) → Takes n → ((k : ℕ) → k < n → Takes k) → (k : ℕ) → k < suc n → Takes k
 one_more n is before k lt =
@@ -140,111 +148,111 @@ one_more n is before k lt =
 
 take_0 : Takes 0
 unfolding event_at path_event_at
-take_0 = take_one names_form (λ path. events.MakeDir path) 0 (λ path. refl)
+take_0 = take_one names_form (λ path. events.MakeDir path) 0 (λ path. refl) (λ path. refl)
 
 take_1 : Takes 1
 unfolding event_at path_event_at
-take_1 = take_one names_form (λ path. events.RemoveDir path) 1 (λ path. refl)
+take_1 = take_one names_form (λ path. events.RemoveDir path) 1 (λ path. refl) (λ path. refl)
 
 take_2 : Takes 2
 unfolding event_at path_event_at
-take_2 = take_one names_form (λ path. events.Create path) 2 (λ path. refl)
+take_2 = take_one names_form (λ path. events.Create path) 2 (λ path. refl) (λ path. refl)
 
 take_3 : Takes 3
 unfolding event_at path_event_at
-take_3 = take_one names_form (λ path. events.Unlink path) 3 (λ path. refl)
+take_3 = take_one names_form (λ path. events.Unlink path) 3 (λ path. refl) (λ path. refl)
 
 take_4 : Takes 4
 unfolding event_at path_event_at
-take_4 = take_one names_form (λ path. events.Undelete path) 4 (λ path. refl)
+take_4 = take_one names_form (λ path. events.Undelete path) 4 (λ path. refl) (λ path. refl)
 
 take_5 : Takes 5
 unfolding event_at path_event_at
-take_5 = take_one names_form (λ path. events.OpenWrite path) 5 (λ path. refl)
+take_5 = take_one names_form (λ path. events.OpenWrite path) 5 (λ path. refl) (λ path. refl)
 
 take_6 : Takes 6
 unfolding event_at paths_event_at
-take_6 = take_two names_form names_form (λ path other. events.Link path other) 6 (λ path other. refl)
+take_6 = take_two names_form names_form (λ path other. events.Link path other) 6 (λ path other. refl) (λ path other. refl)
 
 take_7 : Takes 7
 unfolding event_at paths_event_at
-take_7 = take_two names_form names_form (λ path other. events.Rename path other) 7 (λ path other. refl)
+take_7 = take_two names_form names_form (λ path other. events.Rename path other) 7 (λ path other. refl) (λ path other. refl)
 
 take_8 : Takes 8
 unfolding event_at number_event_at
-take_8 = take_one number_form (λ seconds. events.Tick seconds) 8 (λ seconds. refl)
+take_8 = take_one number_form (λ seconds. events.Tick seconds) 8 (λ seconds. refl) (λ seconds. refl)
 
 take_9 : Takes 9
 unfolding event_at number_event_at
-take_9 = take_one number_form (λ handle. events.Close handle) 9 (λ handle. refl)
+take_9 = take_one number_form (λ handle. events.Close handle) 9 (λ handle. refl) (λ handle. refl)
 
 take_10 : Takes 10
 unfolding event_at number_event_at
-take_10 = take_one number_form (λ handle. events.Abandon handle) 10 (λ handle. refl)
+take_10 = take_one number_form (λ handle. events.Abandon handle) 10 (λ handle. refl) (λ handle. refl)
 
 take_11 : Takes 11
 unfolding event_at session_event_at clock_at
-take_11 = take_one moment_form (λ moment. events.Clock moment) 11 (λ moment. refl)
+take_11 = take_one moment_form (λ moment. events.Clock moment) 11 (λ moment. refl) (λ moment. refl)
 
 take_12 : Takes 12
 unfolding event_at session_event_at truncate_at
-take_12 = take_two number_form number_form (λ handle size. events.Truncate handle size) 12 (λ handle size. refl)
+take_12 = take_two number_form number_form (λ handle size. events.Truncate handle size) 12 (λ handle size. refl) (λ handle size. refl)
 
 take_13 : Takes 13
 unfolding event_at session_event_at write_at
-take_13 = take_three number_form number_form string_form (λ handle offset text. events.Write handle offset text) 13 (λ handle offset text. refl)
+take_13 = take_three number_form number_form string_form (λ handle offset text. events.Write handle offset text) 13 (λ handle offset text. refl) (λ handle offset text. refl)
 
 take_14 : Takes 14
 unfolding event_at session_event_at save_at
-take_14 = take_two names_form string_form (λ path text. events.Save path text) 14 (λ path text. refl)
+take_14 = take_two names_form string_form (λ path text. events.Save path text) 14 (λ path text. refl) (λ path text. refl)
 
 take_15 : Takes 15
 unfolding event_at session_event_at revert_at
-take_15 = take_two names_form number_form (λ path version. events.Revert path version) 15 (λ path version. refl)
+take_15 = take_two names_form number_form (λ path version. events.Revert path version) 15 (λ path version. refl) (λ path version. refl)
 
 take_16 : Takes 16
 unfolding event_at session_event_at restore_at
-take_16 = take_two names_form moment_form (λ path moment. events.Restore path moment) 16 (λ path moment. refl)
+take_16 = take_two names_form moment_form (λ path moment. events.Restore path moment) 16 (λ path moment. refl) (λ path moment. refl)
 
 take_17 : Takes 17
 unfolding event_at rule_event_at policy_event_at
-take_17 = take_two names_form policy_form (λ path policy. events.SetPolicy path policy) 17 (λ path policy. refl)
+take_17 = take_two names_form policy_form (λ path policy. events.SetPolicy path policy) 17 (λ path policy. refl) (λ path policy. refl)
 
 take_18 : Takes 18
 unfolding event_at rule_event_at policy_event_at
-take_18 = take_two names_form policy_form (λ path policy. events.SetDefault path policy) 18 (λ path policy. refl)
+take_18 = take_two names_form policy_form (λ path policy. events.SetDefault path policy) 18 (λ path policy. refl) (λ path policy. refl)
 
 take_19 : Takes 19
 unfolding event_at rule_event_at open_read_at
-take_19 = take_two names_form tag_form (λ path tag. events.OpenRead (record { path = path; tag = tag })) 19 (λ path tag. refl)
+take_19 = take_two names_form tag_form (λ path tag. events.OpenRead (record { path = path; tag = tag })) 19 (λ path tag. refl) (λ path tag. refl)
 
 take_20 : Takes 20
 unfolding event_at rule_event_at group_event_at
-take_20 = take_one name_form (λ name. events.GroupMake name) 20 (λ name. refl)
+take_20 = take_one name_form (λ name. events.GroupMake name) 20 (λ name. refl) (λ name. refl)
 
 take_21 : Takes 21
 unfolding event_at rule_event_at group_event_at
-take_21 = take_one name_form (λ name. events.GroupDrop name) 21 (λ name. refl)
+take_21 = take_one name_form (λ name. events.GroupDrop name) 21 (λ name. refl) (λ name. refl)
 
 take_22 : Takes 22
 unfolding event_at rule_event_at member_event_at
-take_22 = take_two name_form names_form (λ name path. events.GroupAdd name path) 22 (λ name path. refl)
+take_22 = take_two name_form names_form (λ name path. events.GroupAdd name path) 22 (λ name path. refl) (λ name path. refl)
 
 take_23 : Takes 23
 unfolding event_at rule_event_at member_event_at
-take_23 = take_two name_form names_form (λ name path. events.GroupRemove name path) 23 (λ name path. refl)
+take_23 = take_two name_form names_form (λ name path. events.GroupRemove name path) 23 (λ name path. refl) (λ name path. refl)
 
 take_24 : Takes 24
 unfolding event_at rule_event_at mark_at
-take_24 = take_three name_form moment_form maybe_form (λ name moment until. events.Mark name moment until) 24 (λ name moment until. refl)
+take_24 = take_three name_form moment_form maybe_form (λ name moment until. events.Mark name moment until) 24 (λ name moment until. refl) (λ name moment until. refl)
 
 take_25 : Takes 25
 unfolding event_at rule_event_at unmark_at
-take_25 = take_two name_form moment_form (λ name moment. events.Unmark name moment) 25 (λ name moment. refl)
+take_25 = take_two name_form moment_form (λ name moment. events.Unmark name moment) 25 (λ name moment. refl) (λ name moment. refl)
 
 take_26 : Takes 26
 unfolding event_at rule_event_at
-take_26 bytes x rest e = subst (λ (y : Event × List ℕ). 26 ∷ bytes ≡ event_text y.0 ++ y.1) (ok_is (events.CleanOne, bytes) (x, rest) e) refl
+take_26 bytes x rest e = subst (λ (y : Event × List ℕ). IsTaken 26 bytes y.0 y.1) (ok_is (events.CleanOne, bytes) (x, rest) e) (record { text = refl; changing = refl })
 
 past_17 : (kind : ℕ) (bytes : List ℕ) → 17 ≤ kind → event_at (kind ∷ bytes) ≡ rule_event_at kind bytes
 unfolding event_at
@@ -267,14 +275,38 @@ below_18 = one_more 17 take_17 (one_more 16 take_16 (one_more 15 take_15 (one_mo
 below_27 : (k : ℕ) → k < 27 → Takes k
 below_27 = one_more 26 take_26 (one_more 25 take_25 (one_more 24 take_24 (one_more 23 take_23 (one_more 22 take_22 (one_more 21 take_21 (one_more 20 take_20 (one_more 19 take_19 (one_more 18 take_18 below_18))))))))
 
+taken : (kind : ℕ) → Takes kind
+taken kind =
+    elim (cases_lt kind 27) [
+      | inl lt ↦ below_27 kind lt
+      | inr le ↦ no_more kind le
+    ]
+
 event_takes : (bytes : List ℕ) (x : Event) (rest : List ℕ) → event_at bytes ≡ Ok (x, rest) → bytes ≡ event_text x ++ rest
 unfolding event_at
 event_takes [] x rest e = absurd cc
-event_takes (kind ∷ bytes) x rest e =
-    elim (cases_lt kind 27) [
-      | inl lt ↦ below_27 kind lt bytes x rest e
-      | inr le ↦ no_more kind le bytes x rest e
-    ]
+event_takes (kind ∷ bytes) x rest e = (taken kind bytes x rest e).text
+
+-- no question is read
+event_changes : (bytes : List ℕ) (x : Event) (rest : List ℕ) → event_at bytes ≡ Ok (x, rest) → changes x ≡ true
+unfolding event_at
+event_changes [] x rest e = absurd cc
+event_changes (kind ∷ bytes) x rest e = (taken kind bytes x rest e).changing
+
+items_change : (n : ℕ) (bytes : List ℕ) (xs : List Event) (rest : List ℕ) → items_at event_at n bytes ≡ Ok (xs, rest) → list_all changes xs ≡ true
+unfolding items_at
+items_change zero bytes xs rest e = subst (λ (y : List Event × List ℕ). list_all changes y.0 ≡ true) (ok_is ([], bytes) (xs, rest) e) refl
+items_change (suc n) bytes xs rest e =
+    let a = bind_ok (event_at bytes) (λ first. items_at event_at n first.1 >>= λ others. Ok (first.0 ∷ others.0, others.1)) (xs, rest) e in
+    let b = bind_ok (items_at event_at n a.0.1) (λ others. Ok (a.0.0 ∷ others.0, others.1)) (xs, rest) a.2 in
+    let all : list_all changes (a.0.0 ∷ b.0.0) ≡ true = rw (event_changes bytes a.0.0 a.0.1 a.1, items_change n a.0.1 b.0.0 b.0.1 b.1) refl in
+    subst (λ (y : List Event × List ℕ). list_all changes y.0 ≡ true) (ok_is (a.0.0 ∷ b.0.0, b.0.1) (xs, rest) b.2) all
+
+pub list_changes : (bytes : List ℕ) (xs : List Event) (rest : List ℕ) → list_at event_at bytes ≡ Ok (xs, rest) → list_all changes xs ≡ true
+unfolding list_at
+list_changes bytes xs rest e =
+    let a = bind_ok (number_at bytes) (λ count. items_at event_at count.0 count.1) (xs, rest) e in
+    items_change a.0.0 a.0.1 xs rest a.2
 
 event_again : (x : Event) (rest : List ℕ) → IsEvent x → event_at (event_text x ++ rest) ≡ Ok (x, rest)
 unfolding event_at clock_at group_event_at mark_at member_event_at number_event_at open_read_at path_event_at paths_event_at policy_event_at restore_at revert_at rule_event_at save_at session_event_at truncate_at unmark_at write_at

@@ -15,7 +15,7 @@ use Rattle.ele_journal.specs.declared.fault.Fault.TheVariants as faults
 use Rattle.ele_journal.specs.declared.fault.RecoverError.{RecoverError}
 use Rattle.ele_journal.specs.declared.fault.RecoverError.TheVariants as errors
 use Rattle.ele_journal.specs.declared.recovery.Recovered.{Recovered}
-use Rattle.ele_journal.specs.Changes.{AreChanges, change_text, changes_text, check_of, last_check}
+use Rattle.ele_journal.specs.Changes.{AreChanges, IsEncodable, change_text, changes_text, check_of, last_check}
 use Rattle.ele_journal.specs.ChangesRead.{IsFound, IsInside, IsReadChange}
 use Rattle.ele_journal.specs.Journal.{IsBase, first_check, framed, head, journal, start}
 use Rattle.ele_journal.specs.Recovered.{IsAll, IsCutAt, IsCutWithin, IsEnd, IsKept, IsRecovered, IsShort}
@@ -90,9 +90,9 @@ inside bytes cp after linked left r begins small is only at found whole check le
 
 -- ---- what is inside was recovered
 
-somes : (changes : List (List Event)) → AllByRecursion IsReadChange changes → AllByRecursion (λ (change : List Event). 0 < length change) changes
-somes [] all = tt
-somes (change ∷ changes) all = ((events_take _ change all.0.read).some, somes changes all.1)
+encodable : (changes : List (List Event)) → AllByRecursion IsReadChange changes → AllByRecursion IsEncodable changes
+encodable [] all = tt
+encodable (change ∷ changes) all = ((events_take _ change all.0.read).encodable, encodable changes all.1)
 
 pub is_recovered : (bytes : List ℕ) (r : Recovered) → IsInside bytes r → IsRecovered bytes r
 is_recovered bytes r i =
@@ -100,7 +100,7 @@ is_recovered bytes r i =
       front = ap (take r.whole) i.text ∙ take_at (journal r.flat r.changes) i.rest r.whole (sym i.whole);
       whole = i.whole;
       within = omega (arith, i.whole, ap length i.text, length-append (journal r.flat r.changes) i.rest);
-      some = somes r.changes i.read;
+      encodable = encodable r.changes i.read;
       check = i.check;
       end = subst (λ (t : List ℕ). IsEnd r.check t r.fault) (sym (ap (drop r.whole) i.text ∙ drop_at (journal r.flat r.changes) i.rest r.whole (sym i.whole))) i.end;
     }
@@ -110,7 +110,7 @@ is_recovered bytes r i =
 cut_at : (before rest more : List ℕ) (whole n : ℕ) (fault : Option Fault) (others : List (List Event)) → AreChanges others → IsEnd before rest fault → rest ++ more ≡ changes_text before others → n ≡ whole + length rest → IsCutAt whole n fault
 cut_at before rest more whole n None others are end e is = omega (arith, is, ap length end)
 cut_at before rest more whole n (Some faults.Cut) others are end e is = let some = end.some in omega arith
-cut_at before rest more whole n (Some (faults.Damaged damage)) others are end e is = undamaged before rest more others are end e
+cut_at before rest more whole n (Some (faults.Damaged damage)) others are end e is = undamaged before rest more others are end.0 e
 
 pub is_kept : (bytes more : List ℕ) (r : Recovered) (flat : Flat) (changes : List (List Event)) → IsInside bytes r → IsBase flat → AreChanges changes → bytes ++ more ≡ journal flat changes → IsKept flat changes (length bytes) r
 is_kept bytes more r flat changes i base are e =

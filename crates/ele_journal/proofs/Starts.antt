@@ -10,7 +10,10 @@ use Rattle.ele_checkpoint.specs.declared.fault.ReadError.TheVariants as read_err
 use Rattle.ele_checkpoint.specs.Checkpoint.{IsRead, checkpoint, measured}
 use Rattle.ele_checkpoint.specs.Checkpoint.{head as checkpoint_head}
 use Rattle.ele_checkpoint.specs.Whole.{whole_text}
+use Rattle.ele_checkpoint.specs.Fits.{IsFlat}
 use Rattle.ele_journal.specs.declared.fault.RecoverError.{RecoverError}
+use Rattle.ele_journal.specs.declared.fault.RecoverError.TheVariants as errors
+use Rattle.ele_journal.specs.Recovered.{IsUnread}
 use Rattle.ele_journal.specs.Changes.{check_of}
 use Rattle.ele_journal.specs.Journal.{first_check, framed, head}
 use Rattle.ele_journal.proofs.Changes.{four, longer, one_size}
@@ -63,6 +66,25 @@ not_whole bytes cp after own more begins small small' e lt =
 -- bytes that were cut after the head have it at the front
 pub has_head : (bytes more rest : List ℕ) → bytes ++ more ≡ head ++ rest → 17 ≤ length bytes → bytes ≡ head ++ drop 17 bytes
 has_head bytes more rest e long = longer bytes more head rest e long
+
+-- ---- why nothing is read
+
+pub short_head : (bytes : List ℕ) → length bytes < 17 → IsUnread bytes errors.Cut
+short_head bytes few = inl few
+
+pub other_head : (bytes : List ℕ) → 17 ≤ length bytes → ((rest : List ℕ) → bytes ≡ head ++ rest → ⊥) → IsUnread bytes errors.Head
+other_head bytes long none = (long, none)
+
+pub short_length : (bytes rest : List ℕ) → bytes ≡ head ++ rest → length rest < 8 → IsUnread bytes errors.Cut
+short_length bytes rest begins few = inr (rest, begins, inl few)
+
+pub short_checkpoint : (bytes rest tail : List ℕ) (size : ℕ) → bytes ≡ head ++ rest → tail ≡ drop 8 rest → to_be_bytes w64 size ≡ take 8 rest → size < 2 ^ 64 → length tail < size → IsUnread bytes errors.Cut
+short_checkpoint bytes rest tail size begins behind is small few =
+    let parts : rest ≡ to_be_bytes w64 size ++ tail = sym (take-append-drop 8 rest) ∙ ap (λ (t : List ℕ). t ++ drop 8 rest) (sym is) ∙ ap (λ (t : List ℕ). to_be_bytes w64 size ++ t) (sym behind) in
+    inr (rest, begins, inr (size, tail, small, parts, few))
+
+pub no_world : (bytes cp after : List ℕ) (fault : Fault) → bytes ≡ framed cp ++ after → ((flat : Flat) → IsFlat flat → cp ≡ checkpoint flat → ⊥) → IsUnread bytes (errors.Checkpoint fault)
+no_world bytes cp after fault begins none = record { body = cp; after = after; text = begins; none = none }
 
 -- the last four bytes of a checkpoint
 pub last_is : (flat : Flat) (cp : List ℕ) → cp ≡ checkpoint flat → drop (length cp - 4) cp ≡ first_check flat

@@ -10,7 +10,8 @@ use Rattle.ele_checkpoint.specs.Reading.{Fails}
 use Rattle.ele_journal.specs.Changes.{IsChange, after_change, change_text, changes_text, check_of, events_text, last_check, linked, size_check, size_text}
 use Rattle.ele_journal.specs.ChangesRead.{IsFound, IsNext, IsReadChange, Links, Reads}
 use Rattle.ele_journal.specs.EventsRead.{events_at}
-use Rattle.ele_journal.specs.Recovered.{Agree, IsEnd, IsTorn}
+use Rattle.ele_journal.specs.declared.fault.Damage.TheVariants as damages
+use Rattle.ele_journal.specs.Recovered.{Agree, IsDamage, IsEnd, IsTorn, check_of_size, sized}
 use Rattle.ele_journal.proofs.Changes.{all_push, change_length, check_push, eight, events_again, events_take, four, longer, one_size, opened, sizes, text_push, twelve}
 
 -- ---- bytes and their check
@@ -80,6 +81,45 @@ torn_long bytes length_bytes rest size links is small few =
     record {
       some = omega arith;
       short = inr (size, small, ap (take 12) links.text ∙ take_at head (drop 4 rest) 12 twelve_bytes ∙ ap (linked (take 4 bytes)) (sym is), omega arith);
+    }
+
+-- twelve bytes that are no length with its check
+pub bad_length : (bytes : List ℕ) → 16 ≤ length bytes → ((body after : List ℕ) → length body ≡ 8 → drop 4 bytes ≡ linked (take 4 bytes) body ++ after → ⊥) → IsDamage (take 4 bytes) (drop 4 bytes) damages.Length
+bad_length bytes long none =
+    let d = drop_length bytes (omega arith) in
+    (omega arith, λ size after e. none (to_be_bytes w64 size) after refl e)
+
+-- the length that was read, with its check
+is_sized : (bytes length_bytes rest : List ℕ) (size : ℕ) → Links bytes 8 length_bytes rest → to_be_bytes w64 size ≡ length_bytes → drop 4 bytes ≡ sized (take 4 bytes) size (drop 4 rest)
+is_sized bytes length_bytes rest size links is = links.text ∙ ap (λ (t : List ℕ). linked (take 4 bytes) t ++ drop 4 rest) (sym is)
+
+size_checked : (bytes length_bytes rest : List ℕ) (size : ℕ) → Links bytes 8 length_bytes rest → to_be_bytes w64 size ≡ length_bytes → take 4 rest ≡ check_of_size (take 4 bytes) size
+size_checked bytes length_bytes rest size links is = links.check ∙ ap (λ (t : List ℕ). check_of (take 4 bytes ++ t)) (sym is)
+
+-- so many bytes whose check is another
+pub bad_check : (bytes length_bytes rest : List ℕ) (size : ℕ) → Links bytes 8 length_bytes rest → to_be_bytes w64 size ≡ length_bytes → size + 8 ≤ length rest
+    → ((body after : List ℕ) → length body ≡ size → drop 4 rest ≡ linked (take 4 rest) body ++ after → ⊥) → IsDamage (take 4 bytes) (drop 4 bytes) damages.Check
+bad_check bytes length_bytes rest size links is long none =
+    record {
+      size = size;
+      after = drop 4 rest;
+      text = is_sized bytes length_bytes rest size links is;
+      long = let d = drop_length rest (omega arith) in omega arith;
+      none = λ body more sized e. none body more sized (subst (λ (b : List ℕ). drop 4 rest ≡ linked b body ++ more) (sym (size_checked bytes length_bytes rest size links is)) e);
+    }
+
+-- bytes with right checks that are no events
+pub bad_events : (bytes length_bytes rest body next : List ℕ) (size : ℕ) (m : Mistake) → Links bytes 8 length_bytes rest → to_be_bytes w64 size ≡ length_bytes → Links rest size body next → events_at body ≡ Err m
+    → IsDamage (take 4 bytes) (drop 4 bytes) damages.Events
+bad_events bytes length_bytes rest body next size m first is second failed =
+    let before = take 4 bytes in
+    let tail : drop 4 rest ≡ linked (check_of_size before size) body ++ drop 4 next = second.text ∙ ap (λ (b : List ℕ). linked b body ++ drop 4 next) (size_checked bytes length_bytes rest size first is) in
+    let all : drop 4 bytes ≡ sized before size (linked (check_of_size before size) body ++ drop 4 next) = is_sized bytes length_bytes rest size first is ∙ ap (λ (t : List ℕ). sized before size t) tail in
+    record {
+      body = body;
+      after = drop 4 next;
+      text = subst (λ (n : ℕ). drop 4 bytes ≡ sized before n (linked (check_of_size before n) body ++ drop 4 next)) (sym second.sized) all;
+      none = λ change change_is e. let f = sym failed ∙ ap events_at e ∙ events_again change change_is in cc;
     }
 
 -- ---- the events of a change

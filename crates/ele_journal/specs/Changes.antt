@@ -1,5 +1,5 @@
 -- The bytes of changes, and the chain of checks that ties each change to all before it.
-use Rattle.std.specs.Prelude.{◌≡◌, ℕ, ◌<◌, ◌^◌, false, List, [], ◌∷◌, ◌++◌, length}
+use Rattle.std.specs.Prelude.{◌≡◌, ℕ, ◌<◌, ◌^◌, false, true, List, [], ◌∷◌, ◌++◌, length}
 use Rattle.std.specs.Int.{w32, w64, to_be_bytes}
 use Rattle.std.specs.List.{AllByRecursion, list_all}
 use Rattle.ele_model.specs.declared.event.Event.{Event}
@@ -47,6 +47,11 @@ changes_text before (change ∷ changes) = change_text before change ++ changes_
 abbrev pub last_check : List ℕ → List (List Event) → List ℕ
 last_check before [] = before
 last_check before (change ∷ changes) = last_check (after_change before change) changes
+
+-- one event or more, and no question: what can be encoded
+pub record IsEncodable (events : List Event) : Type 0 where
+  pub some : 0 < length events
+  pub changing : list_all changes events ≡ true
 
 -- a change has one event or more, each of which may change a world. The types and the memory say the rest
 pub record IsChange (events : List Event) : Type 0 where

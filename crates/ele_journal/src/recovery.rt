@@ -6,7 +6,7 @@ ghost use Rattle.ele_model.specs.declared.flat.Flat.{Flat};
 ghost use Rattle.ele_journal.specs.Changes.{AreChanges};
 ghost use Rattle.ele_journal.specs.ChangesRead.{IsInside};
 ghost use Rattle.ele_journal.specs.Journal.{IsBase, journal, start};
-ghost use Rattle.ele_journal.specs.Recovered.{IsAll, IsCutWithin, IsRecovered, IsShort};
+ghost use Rattle.ele_journal.specs.Recovered.{IsAll, IsCutWithin, IsRecovered, IsShort, IsUnread};
 
 use crate::change::{Change, Check};
 use crate::fault::{Fault, RecoverError};
@@ -40,6 +40,11 @@ pub struct Recovered {
 pub fn recover(alloc: Global, bytes: &[u8]) -> Result<Recovered, RecoverError>
     // The world and the changes have the first bytes.
     ensures found { IfOk result (IsRecovered bytes.now) }
+    // If the checkpoint is whole, only memory can lack, whatever follows it.
+    ensures begun { IfErr result (λ error. (flat : Flat) (after : List ℕ) → IsBase flat
+        → bytes.now ≡ start flat ++ after → error ≡ RecoverError.NoMemory) }
+    // Else the error says what is wrong with the bytes.
+    ensures why { IfErr result (IsUnread bytes.now) }
     // Of a journal that is whole, they are all.
     ensures all { (flat : Flat) (changes : List (List Event)) → IsBase flat → AreChanges changes
         → bytes.now ≡ journal flat changes → IsAll flat changes result }
@@ -60,6 +65,7 @@ fn read_journal(alloc: Global, bytes: &[u8]) -> Result<Recovered, RecoverError>
     ensures inside { IfOk result (IsInside bytes.now) }
     ensures none { IfErr result (λ error. (flat : Flat) (after : List ℕ) → IsBase flat
         → bytes.now ≡ start flat ++ after → error ≡ RecoverError.NoMemory) }
+    ensures why { IfErr result (IsUnread bytes.now) }
     ensures cut { (flat : Flat) (more : List ℕ) → IsBase flat → bytes.now ++ more ≡ start flat
         → length bytes.now < length (start flat) → result ≡ Err RecoverError.Cut }
 {

@@ -3,6 +3,7 @@
 ghost use Rattle.std.specs.Prelude.{◌≡◌, ◌↔◌, ◌-◌, ◌<◌, ◌≤◌, ◌^◌, ◌++◌, List, ℕ, Err, IfErr, IfOk, IsTrue, drop, length, take};
 ghost use Rattle.std.specs.Int.{from_be_bytes, to_be_bytes, w64};
 ghost use Rattle.ele_journal.specs.Journal.{first_check, framed, head, start};
+ghost use Rattle.ele_journal.specs.Recovered.{IsUnread};
 
 use crate::change::{Added, Check};
 use crate::fault::RecoverError;
@@ -76,6 +77,7 @@ pub(crate) fn start_of(bytes: &[u8]) -> Result<(&[u8], &[u8]), RecoverError>
     ensures found { IfOk result (λ x. bytes.now ≡ framed x.0.now ++ x.1.now) }
     ensures none { IfErr result (λ _. (checkpoint after : List ℕ) → length checkpoint < 2 ^ 64
         → bytes.now ≡ framed checkpoint ++ after → ⊥) }
+    ensures why { IfErr result (IsUnread bytes.now) }
     ensures cut { (checkpoint more : List ℕ) → length checkpoint < 2 ^ 64
         → bytes.now ++ more ≡ framed checkpoint → length bytes.now < length (framed checkpoint)
         → result ≡ Err RecoverError.Cut }
@@ -96,6 +98,7 @@ pub(crate) fn start_of(bytes: &[u8]) -> Result<(&[u8], &[u8]), RecoverError>
 fn headed(bytes: &[u8]) -> Result<&[u8], RecoverError>
     ensures found { IfOk result (λ rest. bytes.now ≡ head ++ rest.now) }
     ensures none { IfErr result (λ _. (rest : List ℕ) → bytes.now ≡ head ++ rest → ⊥) }
+    ensures why { IfErr result (IsUnread bytes.now) }
     ensures cut { (more rest : List ℕ) → bytes.now ++ more ≡ head ++ rest → length bytes.now < 17
         → result ≡ Err RecoverError.Cut }
 {

@@ -8,7 +8,7 @@ use Rattle.ele_journal.specs.declared.recovery.Recovered.{Recovered}
 use Rattle.ele_journal.specs.ChangesRead.{IsFound}
 use Rattle.ele_journal.specs.Journal.{framed}
 use Rattle.ele_journal.proofs.Journals.{framed_once, heading, inside}
-use Rattle.ele_journal.proofs.Starts.{no_fault_of, retyped}
+use Rattle.ele_journal.proofs.Starts.{no_fault_of, no_world, retyped}
 use Rattle.ele_journal.proofs.recovery.read_journal.Goals as goal
 
 pub returns-in-Err-clause-none : goal.returns-in-Err-clause-none
@@ -25,6 +25,13 @@ returns-in-Err-Fault-clause-none c = λ flat after base e.
     let is_met = c.in-Err-Fault.field-0-is in
     let faulty : c.in-Err-Fault.field-0 ≡ read_errors.Fault c.in-Err-Fault.fault = cc in
     absurd (no_fault_of flat c.in-Err-Fault.field-0 c.in-Err-Fault.fault faulty (c.in-Err-Fault.ensures.only flat base.world once.same))
+
+pub returns-in-Err-Fault-clause-why : goal.returns-in-Err-Fault-clause-why
+returns-in-Err-Fault-clause-why c =
+    let is_met = c.in-Err-Fault.field-0-is in
+    let faulty : c.in-Err-Fault.field-0 ≡ read_errors.Fault c.in-Err-Fault.fault = cc in
+    no_world c.args.bytes.now c.in-Ok.found.0.now c.in-Ok.found.1.now c.in-Err-Fault.fault c.in-Ok.ensures.found
+    (λ flat fits e. no_fault_of flat c.in-Err-Fault.field-0 c.in-Err-Fault.fault faulty (c.in-Err-Fault.ensures.only flat fits e))
 
 pub returns-clause-inside : goal.returns-clause-inside
 returns-clause-inside c =
