@@ -194,8 +194,8 @@ int32_t elephant_counts(const elephant *e, elephant_counts_row *row);
  * program prints them. It answers what `--explain` adds too. `history`, `trim`,
  * `handles`, `gone` and `answers` are "bad 32 Syntax" in a store without a history.
  * An empty line has an empty answer. ELEPHANT_OK: there is an answer, which may be a refusal ("no 5 NoEntry"). UNTOLD: the line
- * was run, but there is no memory for the text; elephant_tell tries again. The handle also keeps the result of the line's event:
- * after `read /f` elephant_take copies the bytes. CLOSED. */
+ * was run, but there is no memory for its text, which has more than 8,192 bytes; elephant_tell tries again. The handle also keeps
+ * the result of the line's event: after `read /f` elephant_take copies the bytes. CLOSED. */
 int32_t elephant_line(elephant *e, const void *line, size_t len, uint64_t *length);
 
 /* Makes the text of the last call's answer, also of a typed call, as the program prints it: "ok file 1". It passes over calls that

@@ -8,14 +8,14 @@ use Rattle.ele_c_values.specs.declared.limits.LimitFields.{LimitFields}
 use Rattle.ele_embed.specs.Embedding.{Embedding, fresh_plain, fresh_recorded, world_in}
 use Rattle.ele_embed.specs.Hears.{Hears}
 use Rattle.ele_embed.specs.Takes.{FoldsOrNot, Passes, Runs, TellsAhead, TellsWhy}
-use Rattle.ele_embed.specs.Text.{IsTold}
+use Rattle.ele_embed.specs.Text.{IsLong, IsTold}
 use Rattle.ele_model.specs.Bounds.{Bounds}
 use Rattle.ele_model.specs.declared.event.Event.{Event}
 use Rattle.ele_model.specs.declared.pass.PassEnd.{PassEnd}
 use Rattle.ele_path.specs.declared.tagged.TaggedPath.{TaggedPath}
 use Rattle.ele_printer.specs.declared.fault.LineFault.{LineFault}
 use Rattle.ele_runs.specs.declared.said.Said.{Said}
-use Rattle.ele_runs.specs.declared.said.Said.TheVariants.{Nothing, Passed}
+use Rattle.ele_runs.specs.declared.said.Said.TheVariants.{Passed}
 
 -- a closed handle returns 64 and stays closed; an open one stays open, and its store changes in this way
 abbrev pub Calls : Option Embedding → (Embedding → Embedding → Type 0) → ℤ → Option Embedding → Type 0
@@ -57,11 +57,11 @@ ShowsFound bytes whole offset None code after old new before count = (code ≡ p
 ShowsFound bytes whole offset (Some store) code after old new before count =
     (after ≡ Some store) × CopiesFound (bytes store) whole offset old new before count code
 
--- a line was run, and its text made, unless there is an answer and memory for its text is refused
+-- a line was run, and its text made, unless it has no room in the buffer of a printer and memory for it is refused
 abbrev pub TellsText : ℤ → Embedding → ℕ → ℕ → Type 0
 TellsText code after old new =
     ((code ≡ pos 0) × IsTold after.state after.said after.answer × (new ≡ length after.answer))
-    ⊎ ((code ≡ pos 71) × (after.said ≢ Nothing) × (after.answer ≡ []) × (new ≡ old))
+    ⊎ ((code ≡ pos 71) × IsLong after.state after.said × (after.answer ≡ []) × (new ≡ old))
 
 abbrev pub RunsLine : List ℕ → Option Embedding → ℤ → Option Embedding → ℕ → ℕ → Type 0
 RunsLine line None code after old new = (code ≡ pos 64) × (after ≡ None) × (new ≡ old)

@@ -2,18 +2,22 @@
 //! A contract sees the world or the history, the last answer, and the last text.
 #![tactic(auto)]
 
-ghost use Rattle.std.specs.Prelude.{◌≡◌, ◌≢◌, [], Some, None, true, false, IfOk, OnOk, OnErr};
+ghost use Rattle.std.specs.Prelude.{◌≡◌, ◌<◌, ◌≤◌, ◌+◌, ◌++◌, [], Some, None, List, ℕ, length, true, false, IfOk, OnOk, OnErr, vec_capacity};
 ghost use Rattle.std.specs.Option.{option_copied};
-ghost use Rattle.ele_embed.specs.Embedding.{Plain, Recorded, events_in, fresh_plain, fresh_recorded, reply_of, world_in, past_in};
+ghost use Rattle.ele_embed.specs.Embedding.{Plain, Recorded, events_in, fresh_plain, fresh_recorded, opened, reply_of, world_in, past_in};
 ghost use Rattle.ele_embed.specs.Hears.{Hears, explaining};
 ghost use Rattle.ele_embed.specs.Kept.{state_of};
 ghost use Rattle.ele_embed.specs.Takes.{CopiesRead, Runs, Passes, FoldsOrNot, TellsWhy, TellsAhead};
-ghost use Rattle.ele_embed.specs.Text.{IsTold, IsRunBlock};
+ghost use Rattle.ele_embed.specs.Text.{IsLong, IsTold, IsRunBlock};
 ghost use Rattle.ele_model.specs.CountsOf.{counts_of};
+ghost use Rattle.ele_output.specs.Outlet.{room};
+ghost use Rattle.ele_output.specs.Prints.{Prints};
 ghost use Rattle.ele_runs.specs.declared.said.Said.TheVariants as said;
 
+mod from_flat;
 mod keeper;
 
+pub use crate::from_flat::OpenError;
 use crate::keeper::Keeper;
 pub use ele_core::Copied;
 use ele_core::Core;
@@ -21,11 +25,12 @@ use ele_history::History;
 use ele_model::{
     Counts, Event, Limits, Moment, NoMemory, PassEnd, Refusal, Reply, Source, TaggedPath,
 };
-use ele_output::{Printer, WriteFault};
+use ele_output::{Printer, ROOM, WriteFault};
 pub use ele_runs::Said;
 use ele_runs::{Keep, RunOptions, explain_alone, hear_kept, kept_line};
 use ele_script::{LineFault, Question};
 use std::alloc::Global;
+use std::io::Write;
 use std::marker::Model;
 
 /// A store, the answer to its last call, and the last text that it made.
@@ -38,12 +43,17 @@ pub struct Store {
 }
 
 impl Model for Store {
+    ghost use Rattle.std.specs.Prelude.{◌≤◌, vec_capacity};
     ghost use Rattle.ele_embed.specs.Embedding.{Embedding};
     ghost use Rattle.ele_embed.specs.Kept.{state_of};
+    ghost use Rattle.ele_output.specs.Outlet.{room};
 
     ghost Value = { Embedding };
 
     ghost view = { λ s. record { state = state_of s.keeper; said = s.said; answer = s.answer.items } };
+
+    // A text that a printer's buffer has room for takes no memory.
+    ghost invariant = { λ s. room ≤ vec_capacity s.answer };
 }
 
 impl Store {
@@ -54,12 +64,7 @@ impl Store {
         ensures { IfOk result (λ store. store ≡ fresh_plain limits) }
     {
         let core = Core::new(alloc, limits)?;
-        Ok(Store {
-            keeper: Keeper::Plain(core, None),
-            said: Said::Nothing,
-            answer: Vec::new(alloc),
-            alloc,
-        })
+        Store::opened(alloc, Keeper::Plain(core, None))
     }
 
     /// Makes an empty store with a history.
@@ -69,10 +74,17 @@ impl Store {
         ensures { IfOk result (λ store. store ≡ fresh_recorded limits) }
     {
         let history = History::new(alloc, limits)?;
+        Store::opened(alloc, Keeper::Recorded(history))
+    }
+
+    // A store that has answered nothing, with room for a short text.
+    fn opened(alloc: Global, keeper: Keeper) -> Result<Store, NoMemory>
+        ensures { IfOk result (λ store. store ≡ opened (state_of keeper)) }
+    {
         Ok(Store {
-            keeper: Keeper::Recorded(history),
+            keeper,
             said: Said::Nothing,
-            answer: Vec::new(alloc),
+            answer: Vec::with_capacity(alloc, ROOM)?,
             alloc,
         })
     }
@@ -150,8 +162,8 @@ impl Store {
 
     /// Runs a line of the script language, without its line feed, and makes the text of its answer.
     ///
-    /// `WriteFault` if memory for the text is refused. Then the text is empty, but the line was run. An
-    /// empty line has no answer, and so no fault.
+    /// `WriteFault` if the text is longer than 8,192 bytes and memory for it is refused. Then the text is
+    /// empty, but the line was run.
     #[tactic(auto, using(crate::proofs::Steps::run_block))]
     pub fn line(&mut self, line: &[u8]) -> Result<(), WriteFault>
         ensures hears { Hears self.old.state line.now self.new.said self.new.state }
@@ -159,7 +171,7 @@ impl Store {
         ensures block { OnOk result
             (IsRunBlock self.old.state line.now self.new.state self.new.answer) }
         ensures err { OnErr result (self.new.answer ≡ []) }
-        ensures untold { OnErr result (self.new.said ≢ said.Nothing) }
+        ensures long { OnErr result (IsLong self.new.state self.new.said) }
     {
         self.said = hear_kept(self.alloc, explaining(), kept_line(line), &mut self.keeper);
         self.tell()
@@ -167,26 +179,20 @@ impl Store {
 
     /// Makes the text of the last answer.
     ///
-    /// `WriteFault` if memory for it is refused. Then the text is empty. If there was no answer, there is
-    /// no fault.
+    /// `WriteFault` if it is longer than 8,192 bytes and memory for it is refused. Then the text is empty.
     pub fn tell(&mut self) -> Result<(), WriteFault>
         ensures told { OnOk result (IsTold self.old.state self.old.said self.new.answer) }
         ensures err { OnErr result (self.new.answer ≡ []) }
-        ensures untold { OnErr result (self.old.said ≢ said.Nothing) }
+        ensures long { OnErr result (IsLong self.old.state self.old.said) }
         ensures state { self.new.state ≡ self.old.state }
         ensures said { self.new.said ≡ self.old.said }
     {
         self.answer.clear();
-        if matches!(self.said, Said::Nothing) {
-            return Ok(());
+        let told = write_said(&self.said, &self.keeper, self.alloc, &mut self.answer);
+        if told.is_err() {
+            self.answer.clear();
         }
-        match write_said(&self.said, &self.keeper, &mut self.answer) {
-            Ok(()) => Ok(()),
-            Err(fault) => {
-                self.answer.clear();
-                Err(fault)
-            }
-        }
+        told
     }
 
     /// Returns the last text.
@@ -255,20 +261,51 @@ fn explaining() -> RunOptions
     options
 }
 
-// Writes the text of an answer into an empty list. A fault means that memory was refused.
-fn write_said(said: &Said, keeper: &Keeper, answer: &mut Vec<u8>) -> Result<(), WriteFault>
-    requires { answer.old.items ≡ [] }
-    ensures { OnOk result (IsTold (state_of keeper.now) said.now answer.new.items) }
+// Writes the text of an answer into an empty list, which has room for a short one. A fault means that
+// memory for a long one was refused.
+fn write_said(
+    said: &Said,
+    keeper: &Keeper,
+    alloc: Global,
+    answer: &mut Vec<u8>,
+) -> Result<(), WriteFault>
+    requires empty { answer.old.items ≡ [] }
+    requires room { room ≤ vec_capacity answer.old }
+    ensures ok { OnOk result (IsTold (state_of keeper.now) said.now answer.new.items) }
+    ensures long { OnErr result (IsLong (state_of keeper.now) said.now) }
+    ensures room { room ≤ vec_capacity answer.new }
 {
-    let mut printer = Printer::new(answer);
+    // What the printer had no room for, which comes before what it holds.
+    let mut front = Vec::new(alloc);
+    let mut printer = Printer::new(&mut front);
+    put_said(said, keeper, &mut printer);
+    printer.check()?;
+    append(answer, printer.held())?;
+    let held = answer.len();
+    append(answer, &front)?;
+    answer.rotate_left(held);
+    Ok(())
+}
+
+// Prints the text of an answer.
+fn put_said<W: Write>(said: &Said, keeper: &Keeper, printer: &mut Printer<'_, W>)
+    ensures { (text : List ℕ) × IsTold (state_of keeper.now) said.now text
+        × Prints W.contents printer.old printer.new text }
+{
     match keeper.history() {
-        Some(history) => said.put(
-            keeper.last(),
-            history.folded(),
-            history.entries(),
-            &mut printer,
-        ),
-        None => said.put(keeper.last(), 0, &[], &mut printer),
+        Some(history) => said.put(keeper.last(), history.folded(), history.entries(), printer),
+        None => said.put(keeper.last(), 0, &[], printer),
     }
-    printer.hand_over()
+}
+
+// Appends bytes to a list. A fault means that memory was refused.
+fn append(list: &mut Vec<u8>, bytes: &[u8]) -> Result<(), WriteFault>
+    ensures ok { OnOk result (list.new.items ≡ list.old.items ++ bytes.now) }
+    ensures full { OnErr result (vec_capacity list.old < length list.old.items + length bytes.now) }
+    ensures capacity { vec_capacity list.old ≤ vec_capacity list.new }
+{
+    match list.extend_from_slice(bytes) {
+        Ok(()) => Ok(()),
+        Err(_) => Err(WriteFault),
+    }
 }
