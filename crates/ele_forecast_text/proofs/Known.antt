@@ -1,5 +1,5 @@
 -- The bytes of the words of a line.
-use Rattle.std.proofs.Common.{◌≡◌, ℕ, List, [], ◌∷◌, ◌++◌, length, refl, sym, ap, ◌∙◌, append_assoc}
+use Rattle.std.proofs.Common.{arith, ◌≡◌, ℕ, List, [], ◌∷◌, ◌++◌, length, refl, sym, ap, ◌∙◌, append_assoc}
 use Rattle.std.proofs.lemmas.List.{append-nil}
 use Rattle.std.specs.List.{IsFirstAndRest, flat_map, join_with_byte}
 use Rattle.std.specs.Prelude.{codes, decimal}
@@ -76,6 +76,11 @@ detailed_parts policy details told =
     let words = told_words policy told in
     line_parts (decimal told.number) (more ++ words)
     ∙ ap (λ (r : List ℕ). decimal told.number ++ r) (ap (λ (r : List ℕ). r ++ 10 ∷ []) (spaced_both more words) ∙ append_assoc (spaced more) (spaced words) (10 ∷ []))
+
+-- no pairs have no word
+pub no_pairs : (pairs : List Rung) → length pairs ≡ 0 → [] ≡ ladder_word pairs
+no_pairs [] none = refl
+no_pairs (pair ∷ pairs) none = absurd (omega (arith, none))
 
 -- the words of pairs are that of the first, and a comma and a word for each other
 pub pairs_are : (pairs : List Rung) (first : Rung) (rest : List Rung) → IsFirstAndRest pairs first rest → ladder_word pairs ≡ pair_word first ++ flat_map (λ (pair : Rung). 44 ∷ pair_word pair) rest

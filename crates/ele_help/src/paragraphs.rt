@@ -75,7 +75,7 @@ pub(crate) static PARAGRAPHS: [(&str, &str); 43] = [
     ),
     // gone
     (
-        "Lists the versions that the stored events removed: when, the file, the version, the path that the file had\nthen, and why it was due. After a 'trim' the path is - and the reason is unknown. It needs the option\n--explain. It is never refused.",
+        "Lists the versions that the stored events removed: when, the file, the version, the path that the file had\nthen, and why it was due. It needs the option --explain. It is never refused.",
         "\nExample:\n    gone    ok gone 0 0\n",
     ),
     // history

@@ -2,7 +2,7 @@
 use Rattle.ele_runs.proofs.Basics.{◌≡◌, ◌≢◌, ℕ, ◌≤◌, ◌+◌, Bool, true, false, List, [], ◌∷◌, length, Option, Some, None, Result, Ok, Err, ◌⊎◌, inl, inr, refl, sym, ap, subst, arith, nat_tests, ◌++◌, ◌-◌, ◌∙◌, length-append, slice_get}
 use Rattle.std.specs.Option.{option_map}
 use Rattle.std.specs.Prelude.{◌&&◌, if◌then◌else◌, IsErr, ◌<◌}
-use Rattle.ele_runs.proofs.Words.{RunState, Outlet, Puts, IsNoted, recorded, MayAnswer, MayMean, IsTold, IsTextIn, front_of, heard, noting, Past, PutsBlock, reply_to}
+use Rattle.ele_runs.proofs.Words.{RunState, Outlet, Outputs, Puts, IsNoted, recorded, MayAnswer, MayMean, IsTold, IsTextIn, front_of, heard, noting, Past, PutsBlock, reply_to}
 use Rattle.ele_model.specs.declared.entry.Entry.{Entry}
 use Rattle.ele_model.specs.declared.event.Event.{Event}
 use Rattle.ele_model.specs.declared.refusal.Stop.TheVariants.{NoMemory, HistoryFull}
@@ -172,7 +172,7 @@ block_put before after view line said old new a b c is on hears noted front told
     (put_here before view line said old new a b c on (subst (λ (run_state : RunState). HearsNext before line said run_state) (sym is) hears) (subst (λ (run_state : RunState). Notes run_state line said old new) (sym is) noted) front told)
 
 -- the writer failed at the text for a last line
-pub finishes_err : {E : Type 0} (run_state : RunState) (buffer : Option (List ℕ)) (a b c : Outlet) (r : Result RunEnd E) → IsErr r → Puts a b (cut_told run_state buffer) → Puts b c [] → WritesLast run_state buffer a c r
+pub finishes_err : {E : Type 0} (run_state : RunState) (buffer : Option (List ℕ)) (a b c : Outlet) (r : Result RunEnd E) → IsErr r → Puts a b (cut_told run_state buffer) → Outputs b c [] → WritesLast run_state buffer a c r
 finishes_err run_state buffer a b c (Ok x) is p q = absurd cc
 finishes_err run_state buffer a b c (Err x) is p q = (tt, puts_no_more p q)
 

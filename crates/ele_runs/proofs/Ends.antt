@@ -15,7 +15,7 @@ use Rattle.ele_runs.proofs.Courses.{clash, manner_stays, strict_run}
 use Rattle.ele_runs.proofs.Joins.{told_append}
 use Rattle.ele_run_options.specs.declared.options.RunOptions.{RunOptions}
 use Rattle.ele_runs.proofs.Ran.{RanSoFar}
-use Rattle.ele_output.specs.Outlet.{IsHandedOver, Puts}
+use Rattle.ele_output.specs.Outlet.{IsHandedOver, Outputs}
 use Rattle.ele_output.proofs.Known.{all_written, front_written}
 
 -- if nothing is left, all was read
@@ -84,10 +84,10 @@ kept_empty : (part : List ℕ) → line_unless_long part ≡ Some [] → part �
 kept_empty part e = grind (arith, nat_tests)
 
 -- if all was handed over, the text that was put was written, and otherwise its beginning
-pub all_out : {Told : List ℕ → Type 0} {old new : Outlet} {text : List ℕ} → old.held ≡ [] → Puts old new text → IsHandedOver new → Told text → Writes Told old.known new.known
+pub all_out : {Told : List ℕ → Type 0} {old new : Outlet} {text : List ℕ} → old.held ≡ [] → Outputs old new text → IsHandedOver new → Told text → Writes Told old.known new.known
 all_out none put over told = record { text = _; told = told; written = all_written none put over }
 
-pub front_out : {Told : List ℕ → Type 0} {old new : Outlet} {text : List ℕ} → old.held ≡ [] → Puts old new text → Told text → WritesFront Told old.known new.known
+pub front_out : {Told : List ℕ → Type 0} {old new : Outlet} {text : List ℕ} → old.held ≡ [] → Outputs old new text → Told text → WritesFront Told old.known new.known
 front_out none put told = record { text = _; told = told; written = front_written none put }
 
 -- a reader fails with ReadFault
@@ -135,14 +135,14 @@ module _ {start state : RunState} {room : ℕ} {buffer input mid : Option (List 
   cut_is : text ++ cut_told state buffer ≡ text ++ cut_told state (line_unless_long ran.part)
   cut_is = ap (λ (b : Option (List ℕ)). text ++ cut_told state b) ran.keeps
 
-  note_is : (notes : Outlet) → Puts state.notes notes (cut_note state buffer) → Puts state.notes notes (cut_note state (line_unless_long ran.part))
-  note_is notes told = subst (λ (b : Option (List ℕ)). Puts state.notes notes (cut_note state b)) ran.keeps told
+  note_is : (notes : Outlet) → Outputs state.notes notes (cut_note state buffer) → Outputs state.notes notes (cut_note state (line_unless_long ran.part))
+  note_is notes told = subst (λ (b : Option (List ℕ)). Outputs state.notes notes (cut_note state b)) ran.keeps told
 
   all_taken : (rest : Option (List ℕ)) → Consumes mid rest [] → Consumes input rest ran.given
   all_taken rest took = subst (Consumes input rest) (append-nil ran.given) (Consumes-trans input mid rest ran.given [] ran.taken took)
 
   -- the input ends
-  module _ (rest : Option (List ℕ)) (notes : Outlet) (took : Consumes mid rest []) (at_end : IsAtEnd rest) (noted : Puts state.notes notes (cut_note state buffer)) where
+  module _ (rest : Option (List ℕ)) (notes : Outlet) (took : Consumes mid rest []) (at_end : IsAtEnd rest) (noted : Outputs state.notes notes (cut_note state buffer)) where
     -- and the writer failed in the block of a last line without its line feed
     pub ends_in_cut : ToldToAWriteFault start input notes (text ++ cut_told state buffer)
     ends_in_cut = record {

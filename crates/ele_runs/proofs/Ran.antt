@@ -2,8 +2,8 @@
 use Rattle.ele_runs.proofs.Basics.{◌≡◌, ℕ, ◌+◌, ◌≤◌, ◌⊎◌, List, [], ◌∷◌, ◌++◌, length, Option, Some, false, refl, sym, ap, ◌∙◌, arith, append_assoc, length-append, append-nil, flat_map-append, flat_map-cons, Consumes, Consumes-nil, Consumes-trans}
 use Rattle.ele_runs.proofs.Words.{Outlet, IsTold, most_lines, most_bytes, line_unless_long, whole_line, whole_lines, line_count, AreTold, AnswersAll, RunState}
 use Rattle.ele_runs.proofs.Joins.{lines_before, told_append}
-use Rattle.ele_output.specs.Outlet.{IsHandedOver, Puts}
-use Rattle.ele_output.proofs.Known.{puts_nil, puts_no_more, puts_then}
+use Rattle.ele_output.specs.Outlet.{IsHandedOver, Outputs}
+use Rattle.ele_output.proofs.Known.{outputs_no_more, outputs_of, outputs_then, puts_nil}
 use Rattle.ele_runs.specs.Telling.{IsToldOf}
 
 -- whole lines were read and a part of one more, and this text answers them, up to this state; so many bytes more are within the
@@ -24,7 +24,7 @@ pub record PutSoFar (start state : RunState) (room : ℕ) (buffer input rest : O
   pub none : old.held ≡ []
   pub text : List ℕ
   pub ran : RanSoFar start state room buffer input rest text
-  pub put : Puts old new text
+  pub put : Outputs old new text
 
 -- a run that begins
 pub ran_none : (start : RunState) (buffer input : Option (List ℕ)) (old : Outlet) → buffer ≡ Some [] → old.held ≡ []
@@ -44,7 +44,7 @@ ran_none start buffer input old clear none first goes_on =
         keeps = clear;
         taken = Consumes-nil input;
       };
-      put = puts_nil old;
+      put = outputs_of (puts_nil old);
     }
 
 -- the text for some lines, and then for one more
@@ -57,9 +57,9 @@ joined_push lines line = flat_map-append whole_line lines (line ∷ []) ∙ ap (
 
 -- the buffered text is handed over
 pub ran_over : {start state : RunState} {room : ℕ} {buffer input rest : Option (List ℕ)} {old known new : Outlet}
-    → PutSoFar start state room buffer input rest old known → Puts known new [] × IsHandedOver new
+    → PutSoFar start state room buffer input rest old known → Outputs known new [] × IsHandedOver new
     → PutSoFar start state room buffer input rest old new
-ran_over so over = record { none = so.none; text = so.text; ran = so.ran; put = puts_no_more so.put over.0 }
+ran_over so over = record { none = so.none; text = so.text; ran = so.ran; put = outputs_no_more so.put over.0 }
 
 -- a line counts at most once
 count_below : (lines : List (List ℕ)) (last : List ℕ) → line_count lines last ≤ length lines + length last
@@ -102,5 +102,5 @@ ran_on {start} {between} {after} {room} {left} {buffer} {buffer'} {input} {mid} 
         keeps = did.keeps;
         taken = Consumes-trans input mid rest ran.given piece ran.taken taken;
       };
-      put = puts_then so.put did.put;
+      put = outputs_then so.put (outputs_of did.put);
     }

@@ -6,7 +6,7 @@ use Rattle.ele_history.proofs.Growth.{world_of-extended}
 use Rattle.ele_runs.proofs.Led.{IsLed, passed_led, replied_led}
 use Rattle.ele_history.specs.Past.{Past, reply_to, world_of}
 use Rattle.ele_history.specs.Reply.{MayReply}
-use Rattle.ele_model.proofs.Reached.{fresh_reached}
+use Rattle.ele_model.proofs.Reached.{fresh_is_start}
 use Rattle.ele_model.specs.declared.entry.Entry.{Entry}
 use Rattle.ele_model.specs.declared.event.Event.{Event}
 use Rattle.ele_model.specs.declared.event.Event.TheVariants as event
@@ -45,39 +45,40 @@ spelled_is words (event.SetPolicy names policy) values = policy_is words names p
 spelled_is words (event.SetDefault names policy) values = policy_is words names policy values
 spelled_is words event values = tt
 
-same_led : (before after : Past) → after ≡ before → IsLed before → IsLed after
-same_led before after is led = subst IsLed (sym is) led
-
 -- the answer of a history to an event
 replied : (before after : Past) (event : Event) → Answered (Recorded before) event (Recorded after) → MayReply before event (Ok (reply_to before event)) after
 replied before after event is = (is.0, ap (λ (past : Past). (reply_to before event, past)) is.1)
 
-meant_led : (explains : Bool) (before : Past) (line : List ℕ) (said : Said) (after : Past) → IsLed before → MayMean explains (Recorded before) line said (Recorded after) → IsLed after
-meant_led explains before line said.Nothing after led may = absurd may
-meant_led explains before line (said.Bad fault) after led may = same_led before after may.1 led
-meant_led explains before line said.Replied after led may =
-    replied_led before after may.0 (reply_to before may.0) led (spelled_is may.1.spells.words.arguments may.0 may.1.spells.words.values) (replied before after may.0 may.2)
-meant_led explains before line (said.Stopped HistoryFull) after led may = same_led before after may.3 led
-meant_led explains before line (said.Stopped NoMemory) after led may = same_led before after may.1 led
-meant_led explains before line (said.Passed end) after led may = passed_led before after may.0 end led may.2
-meant_led explains before line said.History after led may = same_led before after may.2 led
-meant_led explains before line (said.Trimmed count) after led may = subst IsLed (sym may.1.1) led
-meant_led explains before line told after led may = same_led before after may.3 led
+module _ (start : World) where
+  same_led : (before after : Past) → after ≡ before → IsLed start before → IsLed start after
+  same_led before after is led = subst (IsLed start) (sym is) led
 
-answered_led : (explains : Bool) (before : Past) (line : Option (List ℕ)) (said : Said) (after : Past) → IsLed before → MayAnswer explains (Recorded before) line said (Recorded after) → IsLed after
-answered_led explains before None said after led may = same_led before after may.1 led
-answered_led explains before (Some []) said after led may = same_led before after may.1 led
-answered_led explains before (Some (byte ∷ bytes)) said after led may = meant_led explains before (byte ∷ bytes) said after led may
+  meant_led : (explains : Bool) (before : Past) (line : List ℕ) (said : Said) (after : Past) → IsLed start before → MayMean explains (Recorded before) line said (Recorded after) → IsLed start after
+  meant_led explains before line said.Nothing after led may = absurd may
+  meant_led explains before line (said.Bad fault) after led may = same_led before after may.1 led
+  meant_led explains before line said.Replied after led may =
+      replied_led start before after may.0 (reply_to before may.0) led (spelled_is may.1.spells.words.arguments may.0 may.1.spells.words.values) (replied before after may.0 may.2)
+  meant_led explains before line (said.Stopped HistoryFull) after led may = same_led before after may.3 led
+  meant_led explains before line (said.Stopped NoMemory) after led may = same_led before after may.1 led
+  meant_led explains before line (said.Passed end) after led may = passed_led start before after may.0 end led may.2
+  meant_led explains before line said.History after led may = same_led before after may.2 led
+  meant_led explains before line (said.Trimmed count) after led may = subst (IsLed start) (sym may.1.1) led
+  meant_led explains before line told after led may = same_led before after may.3 led
 
-line_led : (before after : RunState) (line : Option (List ℕ)) (told : List ℕ) → IsLed before.past → IsTold before line told after → IsLed after.past
-line_led before after line told led is =
-    same_led is.past after.past (ap (λ (s : RunState). s.past) is.after_is)
-    (answered_led before.options.explain before.past _ is.is.0 is.past led is.is.1)
+  answered_led : (explains : Bool) (before : Past) (line : Option (List ℕ)) (said : Said) (after : Past) → IsLed start before → MayAnswer explains (Recorded before) line said (Recorded after) → IsLed start after
+  answered_led explains before None said after led may = same_led before after may.1 led
+  answered_led explains before (Some []) said after led may = same_led before after may.1 led
+  answered_led explains before (Some (byte ∷ bytes)) said after led may = meant_led explains before (byte ∷ bytes) said after led may
 
-told_led : (before after : RunState) (lines : List (List ℕ)) (text : List ℕ) → IsLed before.past → AreTold before lines text after → IsLed after.past
-told_led before after [] text led told = same_led before.past after.past (ap (λ (s : RunState). s.past) told.1) led
-told_led before after (line ∷ lines) text led told =
-    told_led told.2 after lines told.1 (line_led before told.2 _ told.0 led told.3) told.4
+  line_led : (before after : RunState) (line : Option (List ℕ)) (told : List ℕ) → IsLed start before.past → IsTold before line told after → IsLed start after.past
+  line_led before after line told led is =
+      same_led is.past after.past (ap (λ (s : RunState). s.past) is.after_is)
+      (answered_led before.options.explain before.past _ is.is.0 is.past led is.is.1)
+
+  told_led : (before after : RunState) (lines : List (List ℕ)) (text : List ℕ) → IsLed start before.past → AreTold before lines text after → IsLed start after.past
+  told_led before after [] text led told = same_led before.past after.past (ap (λ (s : RunState). s.past) told.1) led
+  told_led before after (line ∷ lines) text led told =
+      told_led told.2 after lines told.1 (line_led before told.2 _ told.0 led told.3) told.4
 
 reply_keeps : HeadlineHolds → (before after : Past) (event : Event) (reply : Reply) → MayReply before event (Ok reply) after → KeepsHeadline (world_of before) event reply (world_of after)
 reply_keeps law before after event reply may =
@@ -87,7 +88,7 @@ reply_keeps law before after event reply may =
 
 pub replies_keep_headline : HeadlineHolds → RepliesKeepHeadline
 replies_keep_headline law = record {
-  begun = fresh_reached;
+  begun = fresh_is_start;
   told = told_led;
   reply = by;
 } where

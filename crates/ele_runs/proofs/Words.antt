@@ -2,7 +2,7 @@
 pub use Rattle.ele_history.specs.Pass.{MayPass, Removes, RemovesOne}
 pub use Rattle.ele_history.specs.Past.{HasRoom, IsFull, Past, answered, count_of, recorded, reply_to, trimmed, world_of}
 pub use Rattle.ele_history.specs.Reply.{MayReply}
-pub use Rattle.ele_output.specs.Outlet.{HandsOver, IsHandedOver, Outlet, Puts}
+pub use Rattle.ele_output.specs.Outlet.{HandsOver, IsHandedOver, Outlet, Outputs, Puts}
 pub use Rattle.ele_output.specs.Prints.{outlet}
 pub use Rattle.ele_script.specs.Words.{longest_line}
 pub use Rattle.ele_runs.specs.Block.{IsBlock, IsTextIn, cut_block, cut_count}

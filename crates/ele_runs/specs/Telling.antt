@@ -4,7 +4,7 @@ use Rattle.std.specs.Prelude.{◌≡◌, ◌≢◌, ℕ, ◌+◌, ◌≤◌, Boo
 use Rattle.std.specs.List.{AllByRecursion}
 use Rattle.std.specs.Io.KnownBytes.{Appends, Consumes, Keeps, IsAtEnd}
 use Rattle.ele_output.specs.Front.{AppendsFront}
-use Rattle.ele_output.specs.Outlet.{Outlet, Puts}
+use Rattle.ele_output.specs.Outlet.{Outlet, Outputs}
 use Rattle.ele_runs.specs.declared.end.EndLine.{EndLine}
 use Rattle.ele_runs.specs.declared.end.RunEnd.{RunEnd}
 use Rattle.ele_run_options.specs.declared.fault.ShellFault.{ShellFault}
@@ -55,7 +55,7 @@ pub record ToldToTheEnd (start : RunState) (n : ℕ) (input rest : Option (List 
   pub few : n ≤ most_lines
   pub uncut : start.options.strict ≡ true → last ≡ []
   pub text_is : text ≡ blocks ++ cut_told state (line_unless_long last)
-  pub noted : Puts state.notes notes (cut_note state (line_unless_long last))
+  pub noted : Outputs state.notes notes (cut_note state (line_unless_long last))
 
 -- the whole line after these ended the run, however much of the input was read after it
 pub record EndsWhole (start : RunState) (given : List ℕ) (lines : List (List ℕ)) (line : List ℕ) (notes : Outlet) (text : List ℕ) : Type 0 where
@@ -75,7 +75,7 @@ pub record EndsCut (start : RunState) (given : List ℕ) (rest : Option (List �
   pub some : line ≢ []
   pub is : IsToldOf start given lines line blocks state
   pub text_is : text ≡ blocks ++ cut_told state (line_unless_long line)
-  pub noted : Puts state.notes notes (cut_note state (line_unless_long line))
+  pub noted : Outputs state.notes notes (cut_note state (line_unless_long line))
 
 -- the line that ended the run is a last one without its line feed, or a whole one
 abbrev pub EndsAtLine : Bool → RunState → List ℕ → Option (List ℕ) → List (List ℕ) → List ℕ → Outlet → List ℕ → Type 0
@@ -123,7 +123,7 @@ pub record ToldPastABound (start : RunState) (input rest : Option (List ℕ)) (n
 abbrev pub MayTellRest : RunState → List ℕ → List ℕ → Outlet → List ℕ → Type 0
 MayTellRest state blocks rest notes text =
     ((text ≡ blocks) × (notes ≡ state.notes))
-    ⊎ (IsUnbroken rest × (text ≡ blocks ++ cut_told state (line_unless_long rest)) × Puts state.notes notes (cut_note state (line_unless_long rest)))
+    ⊎ (IsUnbroken rest × (text ≡ blocks ++ cut_told state (line_unless_long rest)) × Outputs state.notes notes (cut_note state (line_unless_long rest)))
 
 -- the input begins with these whole lines, and the text answers them
 pub record ToldToAWriteFault (start : RunState) (input : Option (List ℕ)) (notes : Outlet) (text : List ℕ) : Type 0 where

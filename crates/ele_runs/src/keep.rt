@@ -4,7 +4,7 @@ ghost use Rattle.std.specs.Prelude.{◌≡◌};
 
 use crate::said::{Said, explain};
 use ele_history::History;
-use ele_model::{Event, Explain, PassEnd, Stop};
+use ele_model::{Event, Explain, FromFlat, PassEnd, Stop};
 use ele_script::Question;
 use std::alloc::Global;
 
@@ -37,7 +37,7 @@ pub trait Keep {
         ensures { result ≡ has_past (kept self.now) };
 }
 
-impl<C: Explain> Keep for History<C> {
+impl<C: Explain + FromFlat> Keep for History<C> {
     ghost use Rattle.ele_runs.specs.Kept.{Recorded};
 
     ghost kept = { Recorded };

@@ -4,6 +4,7 @@ ghost use Rattle.std.specs.Prelude.{◌≡◌, ◌+◌, ◌^◌, ◌<◌, ◌≤
 ghost use Rattle.std.specs.Option.{option_map, option_and_then};
 ghost use Rattle.memchr.specs.Find.{IsFirstByte, is_byte};
 ghost use Rattle.ele_printer.specs.Printed.{bad_text};
+ghost use Rattle.ele_output.specs.Outlet.{Outputs};
 ghost use Rattle.ele_output.specs.Prints.{outlet, Prints};
 ghost use Rattle.ele_runs.specs.Block.{cut_count};
 ghost use Rattle.ele_runs.specs.RunState.{noting};
@@ -20,7 +21,7 @@ use crate::line_buffer::{LineBuffer, kept_line};
 use crate::runner::Runner;
 use crate::said::Said;
 use crate::tally::Tally;
-use ele_model::Explain;
+use ele_model::{Explain, FromFlat};
 use ele_output::{Printer, WriteFault};
 use ele_script::{LineFault, put_fault};
 use memchr::memchr;
@@ -28,7 +29,7 @@ use std::io::Write;
 
 // Answers the line that ends with these bytes. Then begins a new line, unless this one ended the run.
 // No line is answered after the writer has failed.
-fn put_whole<C: Explain, W: Write, E: Write>(
+fn put_whole<C: Explain + FromFlat, W: Write, E: Write>(
     end: &[u8],
     buffer: &mut LineBuffer,
     runner: &mut Runner<C>,
@@ -69,7 +70,7 @@ fn line_end(bytes: &[u8]) -> Option<usize>
 
 /// Answers the lines that end in the piece, and keeps the bytes after them, or the line that ended the
 /// run. Returns a fault if the writer fails: then no later line is answered.
-pub(crate) fn answer_piece<C: Explain, W: Write, E: Write>(
+pub(crate) fn answer_piece<C: Explain + FromFlat, W: Write, E: Write>(
     piece: &[u8],
     buffer: &mut LineBuffer,
     runner: &mut Runner<C>,
@@ -97,7 +98,7 @@ pub(crate) fn answer_piece<C: Explain, W: Write, E: Write>(
 }
 
 // Prints the fault of a last line without its line feed, after its number if lines are numbered.
-fn put_cut_fault<C: Explain, W: Write>(
+fn put_cut_fault<C: Explain + FromFlat, W: Write>(
     fault: LineFault,
     runner: &Runner<C>,
     printer: &mut Printer<'_, W>,
@@ -112,7 +113,7 @@ fn put_cut_fault<C: Explain, W: Write>(
 
 // Prints the block of a last line without its line feed, which is never run. Returns 1 if the line
 // counts, or 0 if it is empty.
-fn put_cut<C: Explain, W: Write>(
+fn put_cut<C: Explain + FromFlat, W: Write>(
     line: Option<&[u8]>,
     runner: &Runner<C>,
     printer: &mut Printer<'_, W>,
@@ -133,7 +134,7 @@ fn put_cut<C: Explain, W: Write>(
 }
 
 // Returns the tally, with a last line without its line feed.
-fn tally_of<C: Explain>(buffer: &LineBuffer, runner: &Runner<C>) -> Tally
+fn tally_of<C: Explain + FromFlat>(buffer: &LineBuffer, runner: &Runner<C>) -> Tally
     requires { runner.now.number + 1 < 2 ^ 64 }
     ensures { result ≡ cut_tallied runner.now.tally (runner.now.number + 1) buffer.now }
 {
@@ -145,7 +146,7 @@ fn tally_of<C: Explain>(buffer: &LineBuffer, runner: &Runner<C>) -> Tally
 /// Writes the buffered output, and the block and the reason of a last line without its line feed.
 /// Returns the end of the run: the last line counts unless it is empty, and then ends a strict run.
 /// Returns a fault if the writer fails: then it took a prefix.
-pub(crate) fn finish<C: Explain, W: Write, E: Write>(
+pub(crate) fn finish<C: Explain + FromFlat, W: Write, E: Write>(
     buffer: LineBuffer,
     runner: &Runner<C>,
     printer: &mut Printer<'_, W>,
@@ -154,7 +155,8 @@ pub(crate) fn finish<C: Explain, W: Write, E: Write>(
     requires { runner.now.number + 1 < 2 ^ 64 }
     ensures last { WritesLast runner.now buffer (outlet W.contents printer.old)
         (outlet W.contents printer.new) result }
-    ensures noted { Prints E.contents reasons.old reasons.new (cut_note runner.now buffer) }
+    ensures noted { Outputs (outlet E.contents reasons.old) (outlet E.contents reasons.new)
+        (cut_note runner.now buffer) }
 {
     runner.tell_cut(buffer.line(), reasons);
     let cut = put_cut(buffer.line(), runner, printer);

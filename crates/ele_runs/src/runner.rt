@@ -3,7 +3,8 @@
 ghost use Rattle.std.specs.Prelude.{◌≡◌, ◌+◌, ◌<◌, ◌≤◌, ◌^◌, false, List, ℕ, IfOk};
 ghost use Rattle.std.specs.Option.{option_map};
 ghost use Rattle.ele_history.specs.Past.{fresh};
-ghost use Rattle.ele_output.specs.Prints.{Prints, outlet};
+ghost use Rattle.ele_output.specs.Outlet.{Outputs};
+ghost use Rattle.ele_output.specs.Prints.{outlet};
 ghost use Rattle.ele_runs.specs.RunState.{begun, no_printer, noting};
 ghost use Rattle.ele_runs.specs.Note.{IsNoted, cut_note};
 ghost use Rattle.ele_runs.specs.Block.{IsTextIn};
@@ -13,7 +14,7 @@ use crate::note::{report_why, why_bad, why_cut};
 use crate::said::{Said, hear_kept, last_reply};
 use crate::tally::Tally;
 use ele_history::History;
-use ele_model::{Explain, Limits};
+use ele_model::{Explain, FromFlat, Limits};
 use ele_moment::NoMemory;
 use ele_output::Printer;
 use ele_run_options::RunOptions;
@@ -23,7 +24,7 @@ use std::marker::Model;
 
 /// A run over a history: its options, the number of its lines and their tally.
 #[derive(Drop)]
-pub(crate) struct Runner<C: Explain> {
+pub(crate) struct Runner<C: Explain + FromFlat> {
     alloc: Global,
     history: History<C>,
     options: RunOptions,
@@ -32,7 +33,7 @@ pub(crate) struct Runner<C: Explain> {
     tally: Tally,
 }
 
-impl<C: Explain> Model for Runner<C> {
+impl<C: Explain + FromFlat> Model for Runner<C> {
     ghost use Rattle.std.specs.Prelude.{◌≤◌};
     ghost use Rattle.ele_runs.specs.RunState.{RunState, no_printer};
 
@@ -44,7 +45,7 @@ impl<C: Explain> Model for Runner<C> {
     ghost invariant = { λ k. (k.tally.bad ≤ k.lines) × (k.tally.refused ≤ k.lines) × (k.tally.stopped ≤ k.lines) };
 }
 
-impl<C: Explain> Runner<C> {
+impl<C: Explain + FromFlat> Runner<C> {
     /// Starts a run over the history of a fresh world. `NoMemory` if memory is refused.
     pub(crate) fn new(
         alloc: Global,
@@ -126,7 +127,7 @@ impl<C: Explain> Runner<C> {
     /// Prints why a last line without its line feed is never run, if reasons are written.
     pub(crate) fn tell_cut<E: Write>(&self, line: Option<&[u8]>, reasons: &mut Printer<'_, E>)
         requires { self.now.number + 1 < 2 ^ 64 }
-        ensures { Prints E.contents reasons.old reasons.new
+        ensures { Outputs (outlet E.contents reasons.old) (outlet E.contents reasons.new)
             (cut_note self.now (option_map (λ line. line.now) line.entry)) }
     {
         if !self.options.tells_reasons() {

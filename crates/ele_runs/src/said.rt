@@ -18,7 +18,7 @@ use ele_audit::{
     removed_version,
 };
 use ele_history::History;
-use ele_model::{Entry, Explain, Fate, KeyList, Moment, PassEnd, Refusal, Reply, Stop};
+use ele_model::{Entry, Explain, Fate, FromFlat, KeyList, Moment, PassEnd, Refusal, Reply, Stop};
 use ele_output::Printer;
 use ele_path::TaggedPath;
 use ele_printer::{
@@ -115,7 +115,11 @@ fn hear<K: Keep>(alloc: Global, explains: bool, line: &[u8], keeper: &mut K) -> 
 
 /// Answers a question about a history.
 #[tactic(auto, using(crate::proofs::Questions::ahead_recorded))]
-pub(crate) fn explain<C: Explain>(alloc: Global, question: &Question, history: &History<C>) -> Said
+pub(crate) fn explain<C: Explain + FromFlat>(
+    alloc: Global,
+    question: &Question,
+    history: &History<C>,
+) -> Said
     ensures { Explains (Recorded history.now) question.now result }
 {
     match question {
@@ -146,7 +150,11 @@ pub fn explain_alone<C: Explain>(question: &Question, core: &C) -> Said
 }
 
 // Returns why a version is held, or why it was removed.
-fn explain_why<C: Explain>(alloc: Global, tagged: &TaggedPath, history: &History<C>) -> Said
+fn explain_why<C: Explain + FromFlat>(
+    alloc: Global,
+    tagged: &TaggedPath,
+    history: &History<C>,
+) -> Said
     ensures { Explains (Recorded history.now) (question.Why tagged.now) result }
 {
     let told = history.core().fate_at(tagged);
@@ -157,7 +165,7 @@ fn explain_why<C: Explain>(alloc: Global, tagged: &TaggedPath, history: &History
 }
 
 // Returns why a version was removed, or that no stored entry removed it.
-fn explain_forgotten<C: Explain>(
+fn explain_forgotten<C: Explain + FromFlat>(
     alloc: Global,
     told: Result<Fate, Refusal>,
     tagged: &TaggedPath,

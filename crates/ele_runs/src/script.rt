@@ -12,7 +12,7 @@ use crate::line_buffer::LineBuffer;
 use crate::lines::{answer_piece, finish};
 use crate::piece::read_piece;
 use crate::runner::Runner;
-use ele_model::{Explain, Limits};
+use ele_model::{Explain, FromFlat, Limits};
 use ele_output::Printer;
 use ele_run_options::{RunOptions, ShellFault};
 use std::alloc::Global;
@@ -55,7 +55,7 @@ fn most_of(left: u64) -> usize
 }
 
 // How a run ended that this line ended.
-fn ended_by<C: Explain>(line: LineBuffer, runner: &Runner<C>) -> RunEnd
+fn ended_by<C: Explain + FromFlat>(line: LineBuffer, runner: &Runner<C>) -> RunEnd
     ensures lines { result.lines ≡ runner.now.number }
     ensures line { result.ended_by ≡ Some (record { line = line; is_cut = false }) }
     ensures tally { result.tally ≡ runner.now.tally }
@@ -73,7 +73,7 @@ fn ended_by<C: Explain>(line: LineBuffer, runner: &Runner<C>) -> RunEnd
 // Reads pieces and answers their lines until the input ends, a line ends the run, a bound is
 // passed, or the reader or the writer fails. No piece is longer than what may still come, so that
 // nothing is read behind the byte that passes a bound.
-fn run_pieces<C: Explain, R: Read, W: Write, E: Write>(
+fn run_pieces<C: Explain + FromFlat, R: Read, W: Write, E: Write>(
     runner: &mut Runner<C>,
     reader: &mut R,
     printer: &mut Printer<'_, W>,
@@ -112,7 +112,7 @@ fn run_pieces<C: Explain, R: Read, W: Write, E: Write>(
 
 // Runs the script in pieces, over a printer of its own.
 #[tactic(auto, using(crate::proofs::Ends::told_at))]
-fn run_printed<C: Explain, R: Read, W: Write, E: Write>(
+fn run_printed<C: Explain + FromFlat, R: Read, W: Write, E: Write>(
     runner: &mut Runner<C>,
     reader: &mut R,
     writer: &mut W,
@@ -141,7 +141,7 @@ fn run_printed<C: Explain, R: Read, W: Write, E: Write>(
 /// which word of it is at fault and why. If that writer fails, the run goes on.
 ///
 /// The errors are those of `run_over`.
-pub fn run_in<C: Explain, R: Read, W: Write, E: Write>(
+pub fn run_in<C: Explain + FromFlat, R: Read, W: Write, E: Write>(
     options: RunOptions,
     alloc: Global,
     reader: &mut R,
@@ -177,7 +177,7 @@ pub fn run_in<C: Explain, R: Read, W: Write, E: Write>(
 /// - WriteFault: the writer failed, or took no byte of some.
 /// - TooManyLines: a byte stands behind the 1,000,000th line feed, or behind 8,589,934,592 bytes;
 ///   the replies to the whole lines before are written.
-pub fn run_over<C: Explain, R: Read, W: Write>(
+pub fn run_over<C: Explain + FromFlat, R: Read, W: Write>(
     alloc: Global,
     reader: &mut R,
     writer: &mut W,

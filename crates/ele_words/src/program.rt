@@ -19,7 +19,7 @@ use crate::storming::run_storm;
 use crate::strict::report_end;
 use crate::system_reason::{SystemReason, report_error};
 use ele_invocation::Invocation;
-use ele_model::{Audit, Explain, Limits};
+use ele_model::{Audit, Explain, FromFlat, Limits};
 use ele_output::{Printer, write_all};
 use ele_runs::{RunEnd, RunOptions, ShellFault, run_in};
 use ele_script::put_named;
@@ -45,7 +45,7 @@ pub(crate) fn after_flush<T: Drop>(
 }
 
 // Runs a script, and flushes the writer however the run ended.
-fn run_script<C: Explain, R: Read, W: Write, E: Write>(
+fn run_script<C: Explain + FromFlat, R: Read, W: Write, E: Write>(
     alloc: Global,
     options: RunOptions,
     limits: Limits,
@@ -126,7 +126,7 @@ pub(crate) fn tell<E: Write>(fault: Option<ShellFault>, errors: &mut Printer<'_,
 /// Answers go to `writer`. Faults, the end of a run, and arguments that weren't understood are
 /// reported to `errors`. A run with numbers also reports there why its bad lines are no commands.
 /// No other thread is started or waited for.
-pub fn dispatch_alone<C: Explain, R: Read + LastError, W: Write + LastError, E: Write>(
+pub fn dispatch_alone<C: Explain + FromFlat, R: Read + LastError, W: Write + LastError, E: Write>(
     alloc: Global,
     invocation: &Invocation,
     reader: &mut R,
@@ -161,7 +161,7 @@ pub fn dispatch_alone<C: Explain, R: Read + LastError, W: Write + LastError, E: 
 /// A storm calls its core from many threads, and may wait for them forever. If it is `watched`, it
 /// shows at `progress` how many events were answered. All else is done by `dispatch_alone`.
 pub fn dispatch<
-    C: Audit + Explain + Send,
+    C: Audit + Explain + FromFlat + Send,
     T: Threads + Wait + Clock + Sync,
     R: Read + LastError,
     W: Write + LastError,

@@ -2,9 +2,9 @@ use Rattle.std.proofs.Common.{◌∷◌, arith}
 use Rattle.ele_forecast_text.specs.declared.plan.Plan.{Plan}
 use Rattle.ele_forecast_forms.specs.Json.{fate_text}
 use Rattle.ele_forecast_forms.specs.Parts.{forecast_of}
-use Rattle.ele_output.proofs.Known.{put_first, puts_then}
+use Rattle.ele_output.proofs.Known.{put_first, puts_as, puts_nil, puts_then}
 use Rattle.ele_output.proofs.Lists.{list_done, list_more}
-use Rattle.ele_forecast_forms.proofs.Commas.{commas_are}
+use Rattle.ele_forecast_forms.proofs.Commas.{commas_are, no_commas}
 use Rattle.ele_forecast_forms.proofs.json.put_fates.Goals as goal
 
 pub loop-plan-init : goal.loop-plan-init
@@ -16,3 +16,6 @@ loop-plan-preserved g c =
 
 pub returns : goal.returns
 returns g c = list_done (λ (plan : Plan). 44 ∷ fate_text plan.policy (forecast_of plan c.args.number)) c.in-Some.rest.now c.loop-plan.plan-index c.loop-plan-test.false c.loop-plan.invariant
+
+pub returns-in_default : goal.returns-in_default
+returns-in_default g c = puts_as (no_commas (λ (plan : Plan). fate_text plan.policy (forecast_of plan c.args.number)) _ c.in_default.ensures.cases) (puts_nil _)

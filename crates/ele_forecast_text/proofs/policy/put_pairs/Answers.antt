@@ -1,9 +1,9 @@
 use Rattle.std.proofs.Common.{◌∷◌, arith}
 use Rattle.ele_policy.specs.Ladder.{Rung}
 use Rattle.ele_policy.specs.PolicyText.{pair_word}
-use Rattle.ele_output.proofs.Known.{put_first, put_more}
+use Rattle.ele_output.proofs.Known.{put_first, put_more, puts_as, puts_nil}
 use Rattle.ele_output.proofs.Lists.{here, list_done}
-use Rattle.ele_forecast_text.proofs.Known.{pairs_are}
+use Rattle.ele_forecast_text.proofs.Known.{no_pairs, pairs_are}
 use Rattle.ele_forecast_text.proofs.policy.put_pairs.Goals as goal
 
 pub loop-pair-init : goal.loop-pair-init
@@ -14,3 +14,6 @@ loop-pair-preserved g c = put_more c.loop-pair.invariant (here (λ (pair : Rung)
 
 pub returns : goal.returns
 returns g c = list_done (λ (pair : Rung). 44 ∷ pair_word pair) c.in-Some.rest.now c.loop-pair.pair-index c.loop-pair-test.false c.loop-pair.invariant
+
+pub returns-in_default : goal.returns-in_default
+returns-in_default g c = puts_as (no_pairs _ c.in_default.ensures.cases) (puts_nil _)
