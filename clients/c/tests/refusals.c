@@ -33,6 +33,8 @@ void *__wrap_realloc(void *at, size_t size) {
 /* ---- The state of a store: the answers to all questions ---- */
 
 #define MOST (1 << 16)
+/* The text of an answer that has so many bytes takes no memory. */
+#define SHORT 8192
 
 struct told {
     size_t length;
@@ -301,13 +303,15 @@ static size_t text_of(elephant *e, char *into, size_t room) {
     return copied;
 }
 
-/* A line runs, or it stops without memory. If there is no memory for the text of the answer, elephant_tell makes it later. */
+/* A line runs, or it stops without memory. If the text of the answer is longer than SHORT and there is no memory for it, elephant_tell
+ * makes it later. */
 static void refuse_line(const char *line) {
     static char whole[MOST], text[MOST];
     const char *stop = "stop 1 NoMemory\n";
     uint64_t length;
     elephant *e = ready(1);
     size_t wanted;
+    int was_untold = 0;
     OK(elephant_line(e, TEXT(line), &length));
     wanted = text_of(e, whole, MOST);
     WANT(wanted == length);
@@ -325,7 +329,8 @@ static void refuse_line(const char *line) {
         events = answered(e, 1) - events;
         refused += seen != 0;
         if (code == ELEPHANT_UNTOLD) {
-            WANT(length == 77 && seen);
+            WANT(length == 77 && seen && wanted > SHORT);
+            was_untold = 1;
             OK(elephant_tell(e, &length));
         } else {
             WANT(code == ELEPHANT_OK);
@@ -334,8 +339,9 @@ static void refuse_line(const char *line) {
         if (events) WANT(length == wanted && !memcmp(text, whole, wanted));
         else WANT(seen && length == strlen(stop) && !memcmp(text, stop, length));
         elephant_delete(e);
-        if (!seen) return;
+        if (!seen) break;
     }
+    WANT(was_untold == (wanted > SHORT));
 }
 
 static void refuse_trim(void) {

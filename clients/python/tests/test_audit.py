@@ -34,11 +34,13 @@ from elephant._audit import read_answers, read_gone, read_handles, read_history,
 DATA = Path(__file__).resolve().parents[3] / "crates" / "worked_rows" / "data"
 Reads = Callable[[bytes], object]
 ROWS_OF_GONE = (
-    "", "-", "- 5 1 1 /f", "- 5 1 1 /f due", "- 5 1 1 /f due 5 at  once", "- 5 1 1 /f due 5 at once ", "- 5 1 1 /f due 5 by age",
-    "- 5 1 1 /f due 5 by age -", "- 5 1 1 /f due 5 by 3 level", "- 5 1 1 /f due 5 later", "- 5 1 1 /f kept", "- 5 1 1 f due 5",
-    "- 5 1 1 / due 5", "- 5 1 1 /f/ due 5", "- 5 1 1 /a@b due 5", "- 5 1 1  due 5", "- 05 1 1 /f due 5", "- 5 -1 1 /f due 5",
-    "- 5 +1 1 /f due 5", "- 5 1 x /f due 5", "- 253402300800 1 1 /f due 5", "- 5 1 1 /f due 253402300800", "5 1 1 /f due 5",
-    " - 5 1 1 /f due 5", "- - 1 1 /f due 5", "- 5 1 1 /f due 5\r", "- 5 1 1 /é due 5",
+    "", "-", "- 5 1 1 /f", "- 5 1 1 /f due", "- 5 1 1 /f due 5", "- 5 1 1 /f due 5 at  once", "- 5 1 1 /f due 5 at once ", "- 5 1 1 /f due 5 by age",
+    "- 5 1 1 /f due 5 by age -", "- 5 1 1 /f due 5 by 3 level", "- 5 1 1 /f due 5 later", "- 5 1 1 /f kept", "- 5 1 1 f due 5 at once",
+    "- 5 1 1 / due 5 at once", "- 5 1 1 /f/ due 5 at once",
+    "- 5 1 1 /a@b due 5 at once", "- 5 1 1  due 5 at once", "- 05 1 1 /f due 5 at once", "- 5 -1 1 /f due 5 at once",
+    "- 5 +1 1 /f due 5 at once", "- 5 1 x /f due 5 at once", "- 253402300800 1 1 /f due 5 at once", "- 5 1 1 /f due 253402300800 at once",
+    "5 1 1 /f due 5 at once",
+    " - 5 1 1 /f due 5 at once", "- - 1 1 /f due 5 at once", "- 5 1 1 /f due 5 at once\r", "- 5 1 1 /é due 5 at once",
 )
 WRONG: tuple[tuple[Reads, tuple[str, ...]], ...] = (
     (read_gone, (
@@ -46,7 +48,8 @@ WRONG: tuple[tuple[Reads, tuple[str, ...]], ...] = (
         *(f"ok gone 0 1\n{row}\n" for row in ROWS_OF_GONE),
     )),
     (read_why, (
-        "ok why removed 30\n", "ok why removed - due 18\n", "ok why removed 30 due 18\n- 1\n", "ok why current\n",
+        "ok why removed 30\n", "ok why removed 30 due 18\n", "ok why removed - due 18 at once\n", "ok why removed 30 due 18 at once\n- 1\n",
+        "ok why current\n",
         "ok why removed 30 kept\n",
     )),
     (read_handles, (
@@ -76,13 +79,13 @@ class Rows(unittest.TestCase):
     def test_each_cause_of_a_removal(self) -> None:
         answer = (
             b"ok gone 7 4\n- 5 1 1 /f due 5 at once\n- 9 1 2 - due 5 by age 3\n"
-            b"- 30 2 2 /d/a%20b due 28 by 3 level 1\n- 31 9 1 - due 4\n"
+            b"- 30 2 2 /d/a%20b due 28 by 3 level 1\n- 31 9 1 - due 4 at once\n"
         )
         wanted = (
             Removal(at(5), 1, 1, "/f", at(5), Cause.AT_ONCE, spelled=b"/f"),
             Removal(at(9), 1, 2, None, at(5), Cause.BY_AGE, age=3),
             Removal(at(30), 2, 2, "/d/a b", at(28), Cause.DISPLACED, by=3, level=1, spelled=b"/d/a%20b"),
-            Removal(at(31), 9, 1, None, at(4), Cause.UNKNOWN),
+            Removal(at(31), 9, 1, None, at(4), Cause.AT_ONCE),
         )
         self.assertEqual(read_gone(answer), Gone(7, wanted))
         self.assertIsInstance(read_gone(answer).removals[0].moment, Moment)
@@ -93,7 +96,7 @@ class Rows(unittest.TestCase):
             (Due(at(5), by=8, level=1), "due 5 by 8 level 1", Cause.DISPLACED),
         ):
             self.assertEqual((str(fate), fate.cause), (word, cause))
-        for words in ("due 18 at once", "due 18 by age 7", "due 18 by 8 level 1", "due 18"):
+        for words in ("due 18 at once", "due 18 by age 7", "due 18 by 8 level 1"):
             self.assertEqual(str(read_why(f"ok why removed 30 {words}\n".encode())), f"removed 30 {words}")
 
     def test_handles(self) -> None:
@@ -172,14 +175,15 @@ class Audits(unittest.TestCase):
             self.assertEqual(store.why("/ä b", version=2), Removed(at(30), at(25), Cause.BY_AGE, age=7))
             self.assertEqual(store.why("/l", version=2), Removed(at(30), at(28), Cause.DISPLACED, by=3, level=1))
             self.assertRaises(elephant.NoVersion, store.why, "/l", version=4)
+            # After a trim no stored event removed them. What is removed later has its path and cause.
             store.trim()
             with self.assertRaises(Forgotten) as told:
                 store.why("/l", version=2)
             self.assertEqual((told.exception.last, told.exception.subject), (1, "/l"))
             store.set_policy("/l", KeepOne())
             store.clean()
-            self.assertEqual(store.gone().removals, (Removal(at(30), 2, 1, None, at(12), Cause.UNKNOWN),))
-            self.assertEqual(store.why("/l", version=1), Removed(at(30), at(12), Cause.UNKNOWN))
+            self.assertEqual(store.gone().removals, (Removal(at(30), 2, 1, "/l", at(12), Cause.AT_ONCE, spelled=b"/l"),))
+            self.assertEqual(store.why("/l", version=1), Removed(at(30), at(12), Cause.AT_ONCE))
 
     def test_a_removed_version_is_explained_only_by_its_number(self) -> None:
         with audited() as store:

@@ -172,7 +172,6 @@ impl<'a> Words<'a> {
         let since = self.moment()?;
         let rest: Vec<&str> = self.0.by_ref().collect();
         let cause = match rest[..] {
-            [] => Cause::Unknown,
             ["at", "once"] => Cause::AtOnce,
             ["by", "age", seconds] => Cause::ByAge { seconds: number_of(seconds)? },
             ["by", by, "level", level] => Cause::Displaced { level: number_of(level)?, by: number_of(by)? },
@@ -205,14 +204,15 @@ mod tests {
     use crate::{Answered, Answers, Cause, Error, Fate, Gone, History, OpenHandle, Removal};
 
     const GONE: &str = "ok gone 7 4\n- 5 1 1 /f due 5 at once\n- 9 1 2 - due 5 by age 3\n\
-                        - 30 2 2 /d/a%20b due 28 by 3 level 1\n- 31 9 1 - due 4\n";
+                        - 30 2 2 /d/a%20b due 28 by 3 level 1\n- 31 9 1 - due 4 at once\n";
 
     // Each is no row of `gone`.
-    const OTHER_ROWS: [&str; 26] = [
+    const OTHER_ROWS: [&str; 27] = [
         "",
         "-",
         "- 5 1 1 /f",
         "- 5 1 1 /f due",
+        "- 5 1 1 /f due 5",
         "- 5 1 1 /f due 5 at  once",
         "- 5 1 1 /f due 5 at once ",
         "- 5 1 1 /f due 5 by age",
@@ -220,21 +220,21 @@ mod tests {
         "- 5 1 1 /f due 5 by 3 level",
         "- 5 1 1 /f due 5 later",
         "- 5 1 1 /f kept",
-        "- 5 1 1 f due 5",
-        "- 5 1 1 / due 5",
-        "- 5 1 1 /f/ due 5",
-        "- 5 1 1 /a@b due 5",
-        "- 5 1 1  due 5",
-        "- 05 1 1 /f due 5",
-        "- 5 -1 1 /f due 5",
-        "- 5 +1 1 /f due 5",
-        "- 5 1 x /f due 5",
-        "- 253402300800 1 1 /f due 5",
-        "- 5 1 1 /f due 253402300800",
-        "- 5 18446744073709551616 1 /f due 5",
-        "5 1 1 /f due 5",
-        " - 5 1 1 /f due 5",
-        "- - 1 1 /f due 5",
+        "- 5 1 1 f due 5 at once",
+        "- 5 1 1 / due 5 at once",
+        "- 5 1 1 /f/ due 5 at once",
+        "- 5 1 1 /a@b due 5 at once",
+        "- 5 1 1  due 5 at once",
+        "- 05 1 1 /f due 5 at once",
+        "- 5 -1 1 /f due 5 at once",
+        "- 5 +1 1 /f due 5 at once",
+        "- 5 1 x /f due 5 at once",
+        "- 253402300800 1 1 /f due 5 at once",
+        "- 5 1 1 /f due 253402300800 at once",
+        "- 5 18446744073709551616 1 /f due 5 at once",
+        "5 1 1 /f due 5 at once",
+        " - 5 1 1 /f due 5 at once",
+        "- - 1 1 /f due 5 at once",
     ];
 
     fn removal(moment: u64, version: (u64, u64), path: Option<&str>, since: u64, cause: Cause) -> Removal {
@@ -248,7 +248,7 @@ mod tests {
             removal(5, (1, 1), Some("/f"), 5, Cause::AtOnce),
             removal(9, (1, 2), None, 5, Cause::ByAge { seconds: 3 }),
             removal(30, (2, 2), Some("/d/a%20b"), 28, Cause::Displaced { level: 1, by: 3 }),
-            removal(31, (9, 1), None, 4, Cause::Unknown),
+            removal(31, (9, 1), None, 4, Cause::AtOnce),
         ];
         assert_eq!(read_gone(GONE), Ok(Gone { folded: 7, removals }));
         assert_eq!(read_gone("ok gone 0 0\n"), Ok(Gone { folded: 0, removals: vec![] }));
@@ -266,8 +266,13 @@ mod tests {
         {
             assert_eq!(read_gone(answer), Err(Error::UnknownAnswer), "{answer:?}");
         }
-        for answer in ["ok why removed 30\n", "ok why removed - due 18\n", "ok why removed 30 due 18\n- 1\n", "ok why current\n"]
-        {
+        for answer in [
+            "ok why removed 30\n",
+            "ok why removed 30 due 18\n",
+            "ok why removed - due 18 at once\n",
+            "ok why removed 30 due 18 at once\n- 1\n",
+            "ok why current\n",
+        ] {
             assert_eq!(read_removed(answer), Err(Error::UnknownAnswer), "{answer:?}");
         }
     }

@@ -31,7 +31,7 @@ pub struct Removal {
     pub file: u64,
     /// The version's number.
     pub number: u64,
-    /// The path that led to its file just before. None if no live names did, or if the history was trimmed.
+    /// The path that led to its file just before. None if no live names did.
     pub path: Option<String>,
     /// Since when it was due.
     pub since: u64,

@@ -177,7 +177,8 @@ impl Store {
     /// too: `no 5 NoEntry`.
     ///
     /// # Errors
-    /// [`Error::Untold`]: the line was run, and [`tell`](Store::tell) may return its answer later.
+    /// [`Error::Untold`]: the line was run, but there was no memory for its text, which has more than 8,192 bytes.
+    /// [`tell`](Store::tell) may return it later.
     /// [`Error::NoMemory`].
     pub fn line(&self, line: &str) -> Result<String, Error> {
         // SAFETY: see `call`.

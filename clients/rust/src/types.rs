@@ -406,8 +406,6 @@ pub enum Cause {
         /// The number of the newer version.
         by: u64,
     },
-    /// The history was trimmed, and doesn't know it. Only of a removed version.
-    Unknown,
 }
 
 /// The result of a pass.

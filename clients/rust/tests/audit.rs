@@ -62,13 +62,13 @@ fn each_cause_of_a_removal_is_its_own() {
     let cause = Cause::Displaced { level: 1, by: 3 };
     assert_eq!(store.why(version("/l", 2)), Ok(Fate::Removed { moment: 30, since: 28, cause }));
     assert_eq!(store.why(version("/l", 4)), Err(Error::NoVersion));
-    // After a trim no stored event removed them, and the causes of later removals aren't known.
+    // After a trim no stored event removed them. What is removed later has its path and cause.
     store.trim().unwrap();
     assert_eq!(store.why(version("/l", 2)), Err(Error::Forgotten { last: Some(1) }));
     store.set_policy("/l", &Policy::KeepOne).unwrap();
     store.clean().unwrap();
-    assert_eq!(store.gone().unwrap().removals, [removal(30, (2, 1), None, 12, Cause::Unknown)]);
-    assert_eq!(store.why(version("/l", 1)), Ok(Fate::Removed { moment: 30, since: 12, cause: Cause::Unknown }));
+    assert_eq!(store.gone().unwrap().removals, [removal(30, (2, 1), Some("/l"), 12, Cause::AtOnce)]);
+    assert_eq!(store.why(version("/l", 1)), Ok(Fate::Removed { moment: 30, since: 12, cause: Cause::AtOnce }));
 }
 
 #[test]

@@ -231,14 +231,12 @@ class Cause(Enum):
     """It ended `age` seconds ago."""
     DISPLACED = "displaced"
     """Version `by` closed in the same span, at `level` of the ladder."""
-    UNKNOWN = "unknown"
-    """The history was trimmed, and doesn't know it. Only of a removed version."""
 
 
 def _cause_words(cause: Cause, age: Optional[int], by: Optional[int], level: Optional[int]) -> str:
     """Returns a cause as the script language prints it, with a space before."""
     return {
-        Cause.AT_ONCE: " at once", Cause.BY_AGE: f" by age {age}", Cause.DISPLACED: f" by {by} level {level}", Cause.UNKNOWN: "",
+        Cause.AT_ONCE: " at once", Cause.BY_AGE: f" by age {age}", Cause.DISPLACED: f" by {by} level {level}",
     }[cause]
 
 
@@ -268,7 +266,7 @@ class Due(NamedTuple):
 class Removed(NamedTuple):
     """The version was removed at a moment, and was due since another one, for a cause as that of `Due`.
 
-    Only a store with a history knows it. If the history was trimmed, the cause is `Cause.UNKNOWN`.
+    Only a store with a history knows it.
     """
 
     moment: Moment
@@ -287,7 +285,7 @@ Fate = Union[Current, Open, Marked, Kept, Due, Removed]
 
 class Removal(NamedTuple):
     """A version that a stored event removed: when, the numbers of its file and its own, the path that led to the file just before (None: no
-    live names did, or the history was trimmed), since when it was due, and the cause, as `Removed` has it."""
+    live names did), since when it was due, and the cause, as `Removed` has it."""
 
     moment: Moment
     file: int

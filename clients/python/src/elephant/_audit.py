@@ -21,7 +21,7 @@ class UnknownAnswer(ElephantError):
 
 _NUMBER = "(0|[1-9][0-9]{0,19})"
 _PATH = r"(-|(?:/[!-\"$-.0-?A-~]{1,64})+)"
-_DUE = rf"due {_NUMBER}( at once| by age {_NUMBER}| by {_NUMBER} level {_NUMBER}|)"
+_DUE = rf"due {_NUMBER}( at once| by age {_NUMBER}| by {_NUMBER} level {_NUMBER})"
 _REMOVAL = re.compile(rf"- {_NUMBER} {_NUMBER} {_NUMBER} {_PATH} {_DUE}")
 _REMOVED = re.compile(rf"ok why removed {_NUMBER} {_DUE}")
 _HANDLE = re.compile(rf"- {_NUMBER} {_NUMBER} (?:draft|{_NUMBER}) (?:-|{_NUMBER}) {_PATH}")
@@ -83,8 +83,7 @@ def _number(word: Optional[str]) -> Optional[int]:
 def _due(found: re.Match[str], at: int) -> tuple[Moment, Cause, Optional[int], Optional[int], Optional[int]]:
     """Returns since when a version was due, and the cause with its numbers, from a match whose groups of these begin at a place."""
     since, words, age, by, level = found.group(*range(at, at + 5))
-    causes = {"": Cause.UNKNOWN, " at once": Cause.AT_ONCE}
-    cause = causes.get(words) or (Cause.BY_AGE if by is None else Cause.DISPLACED)
+    cause = Cause.AT_ONCE if words == " at once" else Cause.BY_AGE if by is None else Cause.DISPLACED
     return _moment(since, found[0]), cause, _number(age), _number(by), _number(level)
 
 

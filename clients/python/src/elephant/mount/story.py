@@ -151,12 +151,12 @@ def _for_good(policy: Optional[Policy]) -> str:
 
 
 def _because(it: Union[Due, Removed, Removal]) -> str:
-    """Returns the cause of a version that is due or was removed, if it is known."""
+    """Returns the cause of a version that is due or was removed."""
     if it.cause is Cause.BY_AGE:
         return f"{span(it.age or 0)} after its end"
     if it.cause is Cause.DISPLACED:
         return f"version {it.by} was saved in the same span"
-    return "" if it.cause is Cause.UNKNOWN else "its policy keeps only the newest"
+    return "its policy keeps only the newest"
 
 
 # For programs.
@@ -170,7 +170,7 @@ def _as_data(it: Chapter, policy: Optional[Policy], has_name: bool) -> dict[str,
         data.update(opened=_utc(row.opened), closed=_utc(row.closed), ended=_utc(row.ended), length=row.length)
     if isinstance(fate, (Removed, Removal, NotedRemoval)):
         data["fate"] = {"is": "removed", "moment": _utc(fate.moment), "since": _utc(fate.since)}
-        data["fate"]["cause"] = None if isinstance(fate, NotedRemoval) else _because(fate) or None
+        data["fate"]["cause"] = None if isinstance(fate, NotedRemoval) else _because(fate)
     elif row is None:
         data["fate"] = {"is": "removed", "moment": None, "since": None, "cause": None}
     elif isinstance(fate, Due):
