@@ -130,12 +130,11 @@ class Tagged(NamedTuple):
 
 
 class Removal(NamedTuple):
-    """A version that a clean removed: when, which, since when it was due, the path of its file then, and why it was due."""
+    """A version that a clean removed: when, which, the path of its file then, and why it was due."""
 
     at: int
     file: int
     version: int
-    ripe: int | None
     path: str
     fate: str
 

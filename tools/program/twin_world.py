@@ -216,7 +216,7 @@ class Twin:
         (_, file), sign, word = self.target_of(tagged)
         for it in self.removals:
             if sign == "#" and (file, word) == (it.file, str(it.version)):
-                return f"ok why removed {it.at} " + (f"due {it.ripe}" if self.folded else it.fate)
+                return f"ok why removed {it.at} {it.fate}"
         return None
 
     def ask_ahead(self, moment: str) -> Block:
@@ -233,9 +233,8 @@ class Twin:
         return listed("handles", rows)
 
     def ask_gone(self) -> Block:
-        short = [f"- {it.at} {it.file} {it.version} - due {it.ripe}" for it in self.removals]
-        whole = [f"- {it.at} {it.file} {it.version} {it.path} {it.fate}" for it in self.removals]
-        return [f"ok gone {self.folded} {len(whole)}", *(short if self.folded else whole)]
+        rows = [f"- {it.at} {it.file} {it.version} {it.path} {it.fate}" for it in self.removals]
+        return [f"ok gone {self.folded} {len(rows)}", *rows]
 
     def ask_answers(self) -> Block:
         rows = [row for line, block in zip(self.entries, self.printed) for row in (f"- {line}", *block)]
@@ -549,7 +548,7 @@ class Twin:
         ripe, file, number = keys[0]
         row = self.files[file]
         fate = self.fate(file, some(row.held(number), "Forgotten"))
-        self.removals.append(Removal(self.now, file, number, ripe, self.path_of(Target("file", file)), fate))
+        self.removals.append(Removal(self.now, file, number, self.path_of(Target("file", file)), fate))
         row.versions = [it for it in row.versions if it.number != number]
         self.drop_idle(file)
         return f"ok removed {ripe} {file} {number}"
