@@ -33,6 +33,8 @@ impl Core {
         ensures start { OnOk result (IsStart flat.entry.now) }
         ensures fault { IfErr result (λ error. (fault : FlatFault)
             → error ≡ FromFlatError.Fault fault → HasFault flat.entry.now fault) }
+        ensures no_run { IfErr result (λ error. (fault : FlatFault)
+            → error ≡ FromFlatError.Fault fault → IsStart flat.entry.now → ⊥) }
     {
         match fault_of(flat) {
             Ok(None) => {}

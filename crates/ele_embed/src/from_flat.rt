@@ -23,7 +23,7 @@ pub enum OpenError {
     #[error("{0}")]
     Fault(FlatFault),
     /// Memory was refused, or the limits allow fewer entries than there were.
-    #[error("stopped")]
+    #[error("stop {0}")]
     Stop(Stop),
 }
 
@@ -36,6 +36,8 @@ impl Store {
         ensures start { OnOk result (IsStart flat.entry.now) }
         ensures fault { IfErr result (λ error. (fault : FlatFault)
             → error ≡ OpenError.Fault fault → HasFault flat.entry.now fault) }
+        ensures no_run { IfErr result (λ error. (fault : FlatFault)
+            → error ≡ OpenError.Fault fault → IsStart flat.entry.now → ⊥) }
         ensures room { IfErr result (λ error. error ≢ OpenError.Stop HistoryFull) }
     {
         match Core::from_flat(alloc, flat) {
@@ -55,6 +57,8 @@ impl Store {
         ensures start { OnOk result (IsStart flat) }
         ensures fault { IfErr result (λ error. (fault : FlatFault)
             → error ≡ OpenError.Fault fault → HasFault flat fault) }
+        ensures no_run { IfErr result (λ error. (fault : FlatFault)
+            → error ≡ OpenError.Fault fault → IsStart flat → ⊥) }
         ensures room { IfErr result (λ error. error ≡ OpenError.Stop HistoryFull
             → flat.limits.events < counted_from folded) }
     {
