@@ -25,6 +25,24 @@ fn asked_for(rt: &HostRuntime) -> Invocation {
     }
 }
 
+// Each option that helps who types a run: numbers with reasons, remarks and explanations.
+fn for_terminal(invocation: Invocation) -> Invocation {
+    match invocation {
+        Invocation::Run(limits, mut options) => {
+            options.numbers = true;
+            options.remarks = true;
+            options.explain = true;
+            Invocation::Run(limits, options)
+        }
+        other => other,
+    }
+}
+
+// Whether a person types the input and reads the answers.
+fn is_typed(rt: &HostRuntime) -> bool {
+    rt.stdin().is_terminal() && rt.stdout().is_terminal()
+}
+
 // Greets on standard error if the script of a run is typed at a terminal.
 fn greet(rt: &HostRuntime, invocation: &Invocation) {
     if matches!(invocation, Invocation::Run(_, _)) && rt.stdin().is_terminal() {
@@ -40,7 +58,10 @@ fn is_metered(rt: &HostRuntime, invocation: &Invocation) -> bool {
 }
 
 fn main(rt: HostRuntime) -> ExitCode {
-    let invocation = asked_for(&rt);
+    let mut invocation = asked_for(&rt);
+    if is_typed(&rt) {
+        invocation = for_terminal(invocation);
+    }
     greet(&rt, &invocation);
     let watched = rt.stderr().is_terminal();
     let meter = Meter::new(&rt, rt.stderr());
