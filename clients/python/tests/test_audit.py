@@ -34,7 +34,8 @@ from elephant._audit import read_answers, read_gone, read_handles, read_history,
 DATA = Path(__file__).resolve().parents[3] / "crates" / "worked_rows" / "data"
 Reads = Callable[[bytes], object]
 ROWS_OF_GONE = (
-    "", "-", "- 5 1 1 /f", "- 5 1 1 /f due", "- 5 1 1 /f due 5", "- 5 1 1 /f due 5 at  once", "- 5 1 1 /f due 5 at once ", "- 5 1 1 /f due 5 by age",
+    "", "-", "- 5 1 1 /f", "- 5 1 1 /f due", "- 5 1 1 /f due 5", "- 5 1 1 /f due 5 at  once", "- 5 1 1 /f due 5 at once ",
+    "- 5 1 1 /f due 5 by age",
     "- 5 1 1 /f due 5 by age -", "- 5 1 1 /f due 5 by 3 level", "- 5 1 1 /f due 5 later", "- 5 1 1 /f kept", "- 5 1 1 f due 5 at once",
     "- 5 1 1 / due 5 at once", "- 5 1 1 /f/ due 5 at once",
     "- 5 1 1 /a@b due 5 at once", "- 5 1 1  due 5 at once", "- 05 1 1 /f due 5 at once", "- 5 -1 1 /f due 5 at once",
