@@ -26,6 +26,8 @@ pub mod Past
 -- what policies see, and what is due
 pub mod Views
 pub mod Scans
+-- which marks hold versions
+pub mod Marked
 -- what files use
 pub mod Blocks
 -- which names are restorable

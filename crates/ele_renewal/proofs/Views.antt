@@ -70,7 +70,7 @@ module _ (w : World) (old : IsStart w) where
         ∙ any_same_all (λ x. is_live_name_of (new_file w.files file) (renewed_name w x)) (is_live_name_of file) w.names
         (all-weaker (IsNameRow w.files w.now) (λ x. is_live_name_of (new_file w.files file) (renewed_name w x) ≡ is_live_name_of file x) w.names (λ x is. rw (live_target x.target is.there) refl) old.formed.names.each)
 
-    same_member : (row : GroupRow) → IsGroup w.files w.now row → is_member (new_file w.files file) (renewed_group w row) ≡ is_member file row
+    pub same_member : (row : GroupRow) → IsGroup w.files w.now row → is_member (new_file w.files file) (renewed_group w row) ≡ is_member file row
     same_member row is = any-map (new_file w.files) (λ member. member == new_file w.files file) row.members
         ∙ any_same_all (λ member. new_file w.files member == new_file w.files file) (λ member. member == file) row.members
         (all-weaker (λ member. 0 < next_of w.files member) (λ member. (new_file w.files member == new_file w.files file) ≡ (member == file)) row.members (λ member here. file_same w.files member file (file_there w.files member here) there) is.there)

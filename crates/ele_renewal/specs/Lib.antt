@@ -3,6 +3,7 @@ pub mod Example
 pub mod Numbers
 pub mod Renewed
 pub mod RenewedIsStart
+pub mod SameCover
 pub mod SamePast
 pub mod SameRestorable
 pub mod SameScan

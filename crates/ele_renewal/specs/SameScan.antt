@@ -1,4 +1,4 @@
--- In a renewed world the same versions are due, now and later, and the files use the same.
+-- In a renewed world the same versions are due, now and later.
 use Rattle.std.specs.Prelude.{◌≡◌, ℕ, map}
 use Rattle.ele_due.specs.declared.key.Key.{Key}
 use Rattle.ele_model.specs.Change.{Time, after_change}

@@ -4,6 +4,7 @@ ghost use Rattle.std.specs.Prelude.{◌≡◌};
 ghost use Rattle.ele_renewal.specs.Example.{aged, fresh};
 ghost use Rattle.ele_renewal.specs.Renewed.{renewed};
 ghost use Rattle.ele_renewal.specs.RenewedIsStart.{RenewedIsStart};
+ghost use Rattle.ele_renewal.specs.SameCover.{RenewedHasSameCover};
 ghost use Rattle.ele_renewal.specs.SamePast.{RenewedHasSamePast, RenewedVersionIsSame};
 ghost use Rattle.ele_renewal.specs.SameRestorable.{RenewedHasSameRestorable};
 ghost use Rattle.ele_renewal.specs.SameScan.{RenewedHasSameScan};
@@ -24,6 +25,11 @@ pub fn renewed_has_same_past()
 /// At each moment the same versions are due, in the same order, if no handle and no draft is there.
 pub fn renewed_has_same_scan()
     ensures { RenewedHasSameScan }
+{}
+
+/// The same marks hold each version, for as long and at the same moments.
+pub fn renewed_has_same_cover()
+    ensures { RenewedHasSameCover }
 {}
 
 /// The files of each kind of policy use the same, if no handle and no draft is there.
