@@ -26,8 +26,9 @@ pub mod Past
 -- what policies see, and what is due
 pub mod Views
 pub mod Scans
--- which marks hold versions
+-- which marks hold versions, and what becomes of these
 pub mod Marked
+pub mod Fates
 -- what files use
 pub mod Blocks
 -- which names are restorable

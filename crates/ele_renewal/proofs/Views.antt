@@ -92,21 +92,24 @@ module _ (w : World) (old : IsStart w) where
       let there : list_any (is_version row.file x.number) w.versions ≡ true = rw (← same) other.1 in
       rw same (grind (arith, nat_tests, version_lt w.versions row.file row.number x.number held, version_le w.versions row.file x.number row.number))
 
-  own_rows : (file : ℕ) (rows : List VersionRow) → AllByRecursion (IsWhole w old.formed.versions) rows → AllByRecursion (λ x. IsWhole w old.formed.versions x × (x.file ≡ file)) (filter (is_version_of file) rows)
+  pub own_rows : (file : ℕ) (rows : List VersionRow) → AllByRecursion (IsWhole w old.formed.versions) rows → AllByRecursion (λ x. IsWhole w old.formed.versions x × (x.file ≡ file)) (filter (is_version_of file) rows)
   own_rows file [] all = tt
   own_rows file (x ∷ xs) all = elim (x.file == file) as (λ t. (x.file == file) ≡ t → AllByRecursion (λ x. IsWhole w old.formed.versions x × (x.file ≡ file)) (filter (is_version_of file) (x ∷ xs))) [
     | true ↦ λ e. rw e ((all.0, grind (arith, nat_tests, e)), own_rows file xs all.1)
     | false ↦ λ e. rw e (own_rows file xs all.1)
   ] refl
 
+  pub same_newer_rows : (row : VersionRow) → IsWhole w old.formed.versions row → filter (is_newer (renewed_version w row)) (map (renewed_version w) (filter (is_version_of row.file) w.versions)) ≡ map (renewed_version w) (filter (is_newer row) (filter (is_version_of row.file) w.versions))
+  same_newer_rows row whole = filter_map_same (renewed_version w) (is_newer (renewed_version w row)) (is_newer row) (filter (is_version_of row.file) w.versions) (all-weaker (λ x. IsWhole w old.formed.versions x × (x.file ≡ row.file)) (λ x. is_newer (renewed_version w row) (renewed_version w x) ≡ is_newer row x) (filter (is_version_of row.file) w.versions) (λ x h. newer_same row x whole h.0 h.1) (own_rows row.file w.versions (versions_whole w old.formed.versions)))
+
   same_newer : (row : VersionRow) → IsWhole w old.formed.versions row → closings (filter (is_newer (renewed_version w row)) (map (renewed_version w) (filter (is_version_of row.file) w.versions))) ≡ closings (filter (is_newer row) (filter (is_version_of row.file) w.versions))
-  same_newer row whole = rw (filter_map_same (renewed_version w) (is_newer (renewed_version w row)) (is_newer row) (filter (is_version_of row.file) w.versions) (all-weaker (λ x. IsWhole w old.formed.versions x × (x.file ≡ row.file)) (λ x. is_newer (renewed_version w row) (renewed_version w x) ≡ is_newer row x) (filter (is_version_of row.file) w.versions) (λ x h. newer_same row x whole h.0 h.1) (own_rows row.file w.versions (versions_whole w old.formed.versions))))
+  same_newer row whole = rw (same_newer_rows row whole)
       (map_map_same (λ (x : VersionRow). x.closed) (renewed_version w) (λ (x : VersionRow). x.closed) (filter (is_newer row) (filter (is_version_of row.file) w.versions)) (λ x. refl))
 
   -- ---- due and ripe
 
   module _ (closed : IsClosed w) (row : VersionRow) (whole : IsWhole w old.formed.versions row) where
-    unread : numbers_read w.handles row.file ≡ []
+    pub unread : numbers_read w.handles row.file ≡ []
     unread = rw closed.handles refl
 
     newer : closings (filter (is_newer (renewed_version w row)) (filter (is_version_of (new_file w.files row.file)) (map (renewed_version w) w.versions))) ≡ closings (filter (is_newer row) (filter (is_version_of row.file) w.versions))

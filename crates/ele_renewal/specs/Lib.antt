@@ -4,6 +4,7 @@ pub mod Numbers
 pub mod Renewed
 pub mod RenewedIsStart
 pub mod SameCover
+pub mod SameFates
 pub mod SamePast
 pub mod SameRestorable
 pub mod SameScan

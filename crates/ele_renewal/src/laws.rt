@@ -5,6 +5,7 @@ ghost use Rattle.ele_renewal.specs.Example.{aged, fresh};
 ghost use Rattle.ele_renewal.specs.Renewed.{renewed};
 ghost use Rattle.ele_renewal.specs.RenewedIsStart.{RenewedIsStart};
 ghost use Rattle.ele_renewal.specs.SameCover.{RenewedHasSameCover};
+ghost use Rattle.ele_renewal.specs.SameFates.{RenewedHasSameFates};
 ghost use Rattle.ele_renewal.specs.SamePast.{RenewedHasSamePast, RenewedVersionIsSame};
 ghost use Rattle.ele_renewal.specs.SameRestorable.{RenewedHasSameRestorable};
 ghost use Rattle.ele_renewal.specs.SameScan.{RenewedHasSameScan};
@@ -30,6 +31,11 @@ pub fn renewed_has_same_scan()
 /// The same marks hold each version, for as long and at the same moments.
 pub fn renewed_has_same_cover()
     ensures { RenewedHasSameCover }
+{}
+
+/// The same becomes of each version, for the same cause, if no handle and no draft is there.
+pub fn renewed_has_same_fates()
+    ensures { RenewedHasSameFates }
 {}
 
 /// The files of each kind of policy use the same, if no handle and no draft is there.
