@@ -18,6 +18,7 @@ use Rattle.ele_checkpoint.specs.Reading.{Gives, mistake}
 use Rattle.ele_checkpoint.specs.Sum.{sum}
 use Rattle.ele_checkpoint.specs.Whole.{whole_text}
 use Rattle.ele_checkpoint.proofs.Forms.{bind_ok, test_ok, ok_is}
+use Rattle.ele_checkpoint.proofs.Onward.{whole_onward}
 use Rattle.ele_checkpoint.proofs.Worlds.{whole_form}
 
 -- ---- the seal
@@ -73,6 +74,17 @@ all_again flat fits =
     let found : whole_at (whole_text flat) ≡ Ok (flat, []) = ap whole_at (sym (append-nil (whole_text flat))) ∙ whole_form.again flat [] fits in
     rw found refl
 
+-- a world that was read, and what another one begins with
+all_alone : (rest : List ℕ) (found flat : Flat) (after more : List ℕ) → all_at rest ≡ Ok found → IsFlat flat → rest ++ after ≡ whole_text flat ++ more → found ≡ flat
+unfolding all_at
+all_alone rest found flat after more e fits same =
+    let s = bind_ok (whole_at rest) (λ read. cond (eqb (length read.1) 0) (Ok read.0) (Err (mistake (length read.1) flaws.Trailing))) found e in
+    let g = test_ok (eqb (length s.0.1) 0) (mistake (length s.0.1) flaws.Trailing) s.0.0 found s.2 in
+    let nothing : s.0.1 ≡ [] = nil_from_length s.0.1 (eqb-true _ _ g.0) in
+    let ends : whole_at rest ≡ Ok (found, []) = s.1 ∙ ap (λ (t : List ℕ). Ok (s.0.0, t)) nothing ∙ ap (λ (f : Flat). Ok (f, [])) g.1 in
+    let both = ok_is (found, after) (flat, more) (sym (whole_onward rest found after ends) ∙ ap whole_at same ∙ whole_form.again flat more fits) in
+    ap (λ (p : Flat × List ℕ). p.0) both
+
 given_is : (flat : Flat) (r : Result Flat Stop) → Gives (λ (x : Flat). x) r (Ok flat) → IsGiven flat r
 given_is flat (Ok read) h = sym (ok_is flat read h)
 given_is flat (Err stop.Memory) h = tt
@@ -91,7 +103,23 @@ pub inside_none : (e : Stop) (body : List ℕ) → ((rest : List ℕ) → body �
 inside_none stop.Memory body none flat fits e = tt
 inside_none (stop.At m) body none flat fits e = none (whole_text flat) e
 
+pub inside_alone : (r : Result Flat Stop) (body rest : List ℕ) → body ≡ head ++ rest → Gives (λ (x : Flat). x) r (all_at rest)
+    → IfOk r (λ found. (flat : Flat) (after more : List ℕ) → IsFlat flat → body ++ after ≡ (head ++ whole_text flat) ++ more → found ≡ flat)
+inside_alone (Ok found) body rest is given = λ flat after more fits e.
+    let parts : head ++ (rest ++ after) ≡ head ++ (whole_text flat ++ more) = sym (append_assoc head rest after) ∙ ap (λ (t : List ℕ). t ++ after) (sym is) ∙ e ∙ append_assoc head (whole_text flat) more in
+    all_alone rest found flat after more given fits (append_cancel_left head (rest ++ after) (whole_text flat ++ more) parts)
+inside_alone (Err e) body rest is given = tt
+
 -- ---- the whole
+
+-- what begins as sealed bytes begins as those before the seal
+pub read_alone : (bytes body : List ℕ) (found flat : Flat) (after more : List ℕ) → bytes ≡ sealed body → ((flat : Flat) (after more : List ℕ) → IsFlat flat → body ++ after ≡ (head ++ whole_text flat) ++ more → found ≡ flat)
+    → IsFlat flat → bytes ++ after ≡ checkpoint flat ++ more → found ≡ flat
+read_alone bytes body found flat after more is inside fits e =
+    let ends = λ (c : List ℕ). to_be_bytes w64 (length c + 12) ++ to_be_bytes w32 (sum (measured c)) in
+    let own = head ++ whole_text flat in
+    let parts = λ (c x : List ℕ). ap (λ (t : List ℕ). t ++ x) (sealed_parts c) ∙ append_assoc c (ends c) x in
+    inside flat (ends body ++ after) (ends own ++ more) fits (sym (parts body after) ∙ ap (λ (t : List ℕ). t ++ after) (sym is) ∙ e ∙ parts own more)
 
 pub read_none : (r : ReadError) (bytes : List ℕ) → ((rest : List ℕ) → bytes ≡ sealed (head ++ rest) → ⊥) → (flat : Flat) → IsFlat flat → bytes ≡ checkpoint flat → IsRead flat (Err r)
 read_none errors.NoMemory bytes none flat fits e = tt
@@ -107,3 +135,14 @@ pub one_world : (a b : Flat) → IsFlat a → IsFlat b → checkpoint a ≡ chec
 one_world a b fits fits' e =
     let same : whole_text a ≡ whole_text b = append_cancel_left head (whole_text a) (whole_text b) (sealed_once (head ++ whole_text a) (head ++ whole_text b) e) in
     ok_is a b (sym (all_again a fits) ∙ ap all_at same ∙ all_again b fits')
+
+-- nor does one begin with another's
+pub one_front : (a b : Flat) (more : List ℕ) → IsFlat a → IsFlat b → checkpoint a ++ more ≡ checkpoint b → a ≡ b
+one_front a b more fits fits' e =
+    let text : (checkpoint a ++ more) ++ [] ≡ checkpoint b ++ [] = ap (λ (t : List ℕ). t ++ []) e in
+    let whole = append_assoc (checkpoint a) more [] in
+    read_alone (checkpoint a) (head ++ whole_text a) a b (more ++ []) [] refl
+    (λ flat after rest fits'' same.
+    let parts : head ++ (whole_text a ++ after) ≡ head ++ (whole_text flat ++ rest) = sym (append_assoc head (whole_text a) after) ∙ same ∙ append_assoc head (whole_text flat) rest in
+    all_alone (whole_text a) a flat after rest (all_again a fits) fits'' (append_cancel_left head (whole_text a ++ after) (whole_text flat ++ rest) parts))
+    fits' (sym whole ∙ text)

@@ -9,5 +9,7 @@ pub mod Cells
 pub mod Loops
 pub mod Contents
 pub mod Worlds
+pub mod Onward
 pub mod Sums
+pub mod Noticed
 pub mod Checkpoints

@@ -6,20 +6,20 @@ use Rattle.std.proofs.lemmas.Nat.{and_mask, xor_shr, xor_mod, xor_block, xor_com
 use lib.Bits.{xor_assoc, xor_self, xor_zero_r}
 use Rattle.ele_checkpoint.specs.Sum.{after, shifted, sum, times}
 
-abbrev poly : ℕ
+abbrev pub poly : ℕ
 poly = 0x82f63b78
 
 none : (byte : ℕ) → byte < 256 → byte / 2 ^ 8 ≡ 0
 none byte small = omega arith
 
-parity : (x : ℕ) → (x % 2 ≡ 0) ⊎ (x % 2 ≡ 1)
+pub parity : (x : ℕ) → (x % 2 ≡ 0) ⊎ (x % 2 ≡ 1)
 parity x = elim (cases_lt (x % 2) 1) [ inl h ↦ inl (omega arith) | inr h ↦ inr (omega arith) ]
 
-even : (x : ℕ) → x % 2 ≡ 0 → shifted x ≡ x / 2
+pub even : (x : ℕ) → x % 2 ≡ 0 → shifted x ≡ x / 2
 unfolding shifted
 even x e = rw e refl
 
-odd : (x : ℕ) → x % 2 ≡ 1 → shifted x ≡ bit_xor (x / 2) poly
+pub odd : (x : ℕ) → x % 2 ≡ 1 → shifted x ≡ bit_xor (x / 2) poly
 unfolding shifted
 odd x e = rw e refl
 
@@ -30,7 +30,7 @@ lows : (a b : ℕ) → bit_xor a b % 2 ≡ bit_xor (a % 2) (b % 2)
 lows a b = xor_mod a b 1
 
 -- the polynomial moves out of a sum of both
-moved : (a b p : ℕ) → bit_xor (bit_xor a b) p ≡ bit_xor (bit_xor a p) b
+pub moved : (a b p : ℕ) → bit_xor (bit_xor a b) p ≡ bit_xor (bit_xor a p) b
 moved a b p = xor_assoc a b p ∙ ap (bit_xor a) (xor_comm b p) ∙ sym (xor_assoc a p b)
 
 twice : (a b p : ℕ) → bit_xor (bit_xor a p) (bit_xor b p) ≡ bit_xor a b

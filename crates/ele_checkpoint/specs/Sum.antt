@@ -1,5 +1,6 @@
 -- CRC-32C, bit by bit: the remainder of the bytes by the Castagnoli polynomial, the lowest bit of a byte first.
-use Rattle.std.specs.Prelude.{ℕ, zero, suc, ◌/◌, ◌%◌, ◌==◌, bit_xor, List, [], ◌∷◌, if◌then◌else◌}
+use Rattle.std.specs.Prelude.{ℕ, zero, suc, ◌<◌, ◌/◌, ◌%◌, ◌==◌, bit_xor, List, [], ◌∷◌, if◌then◌else◌}
+use Rattle.std.specs.List.{AllByRecursion}
 
 -- one bit on: half of the number, and the polynomial taken off where a bit leaves
 unfoldable pub shifted : ℕ → ℕ
@@ -18,3 +19,7 @@ after state (byte ∷ bytes) = after (times 8 (bit_xor state byte)) bytes
 -- it begins with all ones, and all bits are turned at the end
 unfoldable pub sum : List ℕ → ℕ
 sum bytes = bit_xor (after 0xffffffff bytes) 0xffffffff
+
+-- each number is a byte
+abbrev pub AreBytes : List ℕ → Type 0
+AreBytes bytes = AllByRecursion (λ (byte : ℕ). byte < 256) bytes

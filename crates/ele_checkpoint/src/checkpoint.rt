@@ -48,6 +48,9 @@ pub fn read(alloc: Global, bytes: &[u8]) -> Result<Flat, ReadError>
     ensures found { IfOk result (λ flat. bytes.now ≡ checkpoint flat) }
     // What has these bytes is read, unless memory is refused.
     ensures only { (flat : Flat) → IsFlat flat → bytes.now ≡ checkpoint flat → IsRead flat result }
+    // No other world's checkpoint begins with these bytes, or is what they begin with.
+    ensures alone { IfOk result (λ found. (flat : Flat) (after more : List ℕ) → IsFlat flat
+        → bytes.now ++ after ≡ checkpoint flat ++ more → found ≡ flat) }
 {
     let body = match begun(bytes) {
         Ok(body) => body,
@@ -103,6 +106,8 @@ fn begun(bytes: &[u8]) -> Result<&[u8], Stop>
 fn inside(alloc: Global, body: &[u8]) -> Result<Flat, Stop>
     ensures found { IfOk result (λ flat. body.now ≡ head ++ whole_text flat) }
     ensures only { (flat : Flat) → IsFlat flat → body.now ≡ head ++ whole_text flat → IsGiven flat result }
+    ensures alone { IfOk result (λ found. (flat : Flat) (after more : List ℕ) → IsFlat flat
+        → body.now ++ after ≡ (head ++ whole_text flat) ++ more → found ≡ flat) }
 {
     let rest = headed(body)?;
     all_of(alloc, rest)
