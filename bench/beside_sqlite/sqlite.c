@@ -4,6 +4,7 @@
  * one into the table of versions. This program holds the drafts, and the database doesn't. Each event is a transaction of its
  * own, or with the word `thousand` 1,000 lines are one. */
 #define _GNU_SOURCE
+#include "schema.h"
 #include <sqlite3.h>
 #include <stdio.h>
 #include <stdlib.h>
@@ -11,17 +12,6 @@
 #include <time.h>
 
 enum { LONGEST_LINE = 8194, LONGEST_CONTENT = 1048576, LONGEST_ROW = 128, TRANSACTION = 1000 };
-
-static const char SCHEMA[] =
-    "CREATE TABLE files (id INTEGER PRIMARY KEY, name TEXT NOT NULL UNIQUE, number INTEGER NOT NULL,"
-    " opened INTEGER NOT NULL, closed INTEGER NOT NULL, content BLOB NOT NULL);"
-    "CREATE TABLE versions (file INTEGER NOT NULL, number INTEGER NOT NULL, opened INTEGER NOT NULL,"
-    " closed INTEGER NOT NULL, ended INTEGER NOT NULL, content BLOB NOT NULL);"
-    "CREATE INDEX version_closed ON versions (file, closed);"
-    "CREATE INDEX version_ended ON versions (ended);"
-    "CREATE TRIGGER keep_version AFTER UPDATE OF content ON files BEGIN"
-    " INSERT INTO versions VALUES (old.id, old.number, old.opened, old.closed, new.closed, old.content);"
-    " END;";
 
 enum Statement { CREATE, OPEN, CLOSE, CURRENT, THEN, LAST, LIST, PASS, BEGIN, COMMIT, STATEMENTS };
 
