@@ -154,7 +154,7 @@ a_clean =
     record { some = omega arith; are = (omega arith, (tt, tt)); fits = omega (arith, two) }
 
 -- no whole change is left
-none_whole : (before rest : List ℕ) (fault : Option Fault) (change : List Event) (after : List ℕ) → IsChange change → IsEnd before rest fault → rest ≡ change_text before change ++ after → ⊥
+pub none_whole : (before rest : List ℕ) (fault : Option Fault) (change : List Event) (after : List ℕ) → IsChange change → IsEnd before rest fault → rest ≡ change_text before change ++ after → ⊥
 none_whole before rest None change after is end e =
     omega (arith, ap length (sym end ∙ e), length-append (change_text before change) after, change_length before change)
 none_whole before rest (Some faults.Cut) change after is end e =

@@ -52,7 +52,7 @@ start_parts flat after =
     let m = measured (checkpoint_head ++ whole_text flat) in
     ap (λ (t : List ℕ). t ++ after) (sym (append_assoc (heading (checkpoint flat)) m (first_check flat))) ∙ append_assoc (heading (checkpoint flat) ++ m) (first_check flat) after
 
-first_four : (flat : Flat) → length (first_check flat) ≡ 4
+pub first_four : (flat : Flat) → length (first_check flat) ≡ 4
 first_four flat = four (measured (checkpoint_head ++ whole_text flat))
 
 pub at_check : (flat : Flat) (bytes after : List ℕ) → bytes ≡ start flat ++ after → drop (length bytes - length after - 4) bytes ≡ first_check flat ++ after
@@ -65,9 +65,9 @@ at_check flat bytes after is =
 -- ---- what was read is inside
 
 pub inside : (bytes cp after linked left : List ℕ) (r : Recovered) → bytes ≡ framed cp ++ after → length cp < 2 ^ 64 → cp ≡ checkpoint r.flat
-    → ((flat : Flat) → IsFlat flat → cp ≡ checkpoint flat → r.flat ≡ flat) → linked ≡ drop (length bytes - length after - 4) bytes → IsFound linked r.changes left r.fault
+    → ((flat : Flat) → IsFlat flat → cp ≡ checkpoint flat → r.flat ≡ flat) → ((flat : Flat) (after more : List ℕ) → IsFlat flat → cp ++ after ≡ checkpoint flat ++ more → r.flat ≡ flat) → linked ≡ drop (length bytes - length after - 4) bytes → IsFound linked r.changes left r.fault
     → r.whole ≡ length bytes - length left + 4 → r.check ≡ take 4 left → length left ≤ length bytes → IsInside bytes r
-inside bytes cp after linked left r begins small is only at found whole check le =
+inside bytes cp after linked left r begins small is only alone at found whole check le =
     let first = first_check r.flat in
     let starts : bytes ≡ start r.flat ++ after = begins ∙ ap (λ (c : List ℕ). framed c ++ after) is in
     let parts : linked ≡ first ++ after = at ∙ at_check r.flat bytes after starts in
@@ -86,6 +86,7 @@ inside bytes cp after linked left r begins small is only at found whole check le
       end = subst (λ (b : List ℕ). IsEnd b (drop 4 left) r.fault) (sym check) found.end;
       fits = subst (λ (c : List ℕ). length c < 2 ^ 64) is small;
       only = λ flat fits e. only flat fits (is ∙ e);
+      alone = λ flat after more fits e. alone flat after more fits (ap (λ (c : List ℕ). c ++ after) is ∙ e);
     }
 
 -- ---- what is inside was recovered

@@ -63,3 +63,4 @@ pub record IsInside (bytes : List ℕ) (r : Recovered) : Type 0 where
   pub end : IsEnd r.check rest r.fault
   pub fits : length (checkpoint r.flat) < 2 ^ 64
   pub only : (flat : Flat) → IsFlat flat → checkpoint r.flat ≡ checkpoint flat → r.flat ≡ flat
+  pub alone : (flat : Flat) (after more : List ℕ) → IsFlat flat → checkpoint r.flat ++ after ≡ checkpoint flat ++ more → r.flat ≡ flat

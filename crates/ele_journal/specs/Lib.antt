@@ -3,4 +3,5 @@ pub mod EventsRead
 pub mod Changes
 pub mod Journal
 pub mod Recovered
+pub mod Changed
 pub mod ChangesRead

@@ -3,6 +3,7 @@
 ghost use Rattle.std.specs.Prelude.{◌≡◌, ◌<◌, ◌≤◌, ◌++◌, List, ℕ, Err, IfErr, IfOk, length};
 ghost use Rattle.ele_model.specs.declared.event.Event.{Event};
 ghost use Rattle.ele_model.specs.declared.flat.Flat.{Flat};
+ghost use Rattle.ele_journal.specs.Changed.{IsChangedAt, IsNoticed};
 ghost use Rattle.ele_journal.specs.Changes.{AreChanges};
 ghost use Rattle.ele_journal.specs.ChangesRead.{IsInside};
 ghost use Rattle.ele_journal.specs.Journal.{IsBase, journal, start};
@@ -53,6 +54,10 @@ pub fn recover(alloc: Global, bytes: &[u8]) -> Result<Recovered, RecoverError>
         → AreChanges changes → bytes.now ++ more ≡ journal flat changes
         → length (start flat) ≤ length bytes.now
         → IsCutWithin flat changes (length bytes.now) result }
+    // Of a journal in which one byte was changed, they are those before that byte.
+    ensures changed { (flat : Flat) (changes : List (List Event)) (place : ℕ) → IsBase flat
+        → AreChanges changes → IsChangedAt place (journal flat changes) bytes.now
+        → IsNoticed flat changes place result }
     // Of a journal that was cut before, there are none.
     ensures short { (flat : Flat) (more : List ℕ) → IsBase flat → bytes.now ++ more ≡ start flat
         → length bytes.now < length (start flat) → IsShort result }

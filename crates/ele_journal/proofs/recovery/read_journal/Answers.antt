@@ -45,4 +45,4 @@ returns-clause-inside c =
     let left = c.in-Ok-changes_of.rest.now in
     let r : Recovered = record { flat = c.in-Ok-read.flat; changes = c.from_vec.result; whole = length c.args.bytes.now - length left + 4; check = c.first_four.result; fault = c.in-Ok-changes_of.fault } in
     let again = subst (λ (changes : List (List Event)). IsFound c.split_at.result.1.now changes left r.fault) (sym c.from_vec.ensures) found in
-    inside c.args.bytes.now cp after c.split_at.result.1.now left r c.in-Ok.ensures.found small c.in-Ok-read.ensures.found c.in-Ok-read.ensures.only at again refl c.first_four.ensures le
+    inside c.args.bytes.now cp after c.split_at.result.1.now left r c.in-Ok.ensures.found small c.in-Ok-read.ensures.found c.in-Ok-read.ensures.only c.in-Ok-read.ensures.alone at again refl c.first_four.ensures le
