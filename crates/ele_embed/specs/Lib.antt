@@ -3,3 +3,5 @@ pub mod Takes
 pub mod Hears
 pub mod Text
 pub mod Kept
+pub mod Checkpoints
+pub mod Renewal

@@ -14,11 +14,15 @@ ghost use Rattle.ele_output.specs.Outlet.{room};
 ghost use Rattle.ele_output.specs.Prints.{Prints};
 ghost use Rattle.ele_runs.specs.declared.said.Said.TheVariants as said;
 
+mod checkpoint;
 mod from_flat;
 mod keeper;
+mod renewal;
 
+pub use crate::checkpoint::CheckpointError;
 pub use crate::from_flat::OpenError;
 use crate::keeper::Keeper;
+pub use crate::renewal::RenewalError;
 pub use ele_core::Copied;
 use ele_core::Core;
 use ele_history::History;
