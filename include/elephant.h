@@ -113,7 +113,9 @@ enum elephant_code {
     ELEPHANT_NO_RESULT = 68,       /* the handle keeps nothing of that kind */
     ELEPHANT_NO_ROW = 69,          /* the kept list has no row of that index */
     ELEPHANT_NO_ROOM = 70,         /* the buffer is too small, and nothing is copied */
-    ELEPHANT_UNTOLD = 71           /* the line was run, but there was no memory for the text of its answer */
+    ELEPHANT_UNTOLD = 71,          /* the line was run, but there was no memory for the text of its answer */
+    ELEPHANT_BAD_CHECKPOINT = 72,  /* the bytes are no checkpoint of a store */
+    ELEPHANT_HANDLES_OPEN = 73     /* a handle is open */
 };
 /* End of the codes. */
 
@@ -129,7 +131,7 @@ uint32_t elephant_library_version_number(void);
 
 /* ---- The handle ---- */
 
-/* How many of each kind may ever be made. A removal lowers no count. */
+/* How many of each kind may ever be made. A removal lowers no count; elephant_renew counts only what is held. */
 typedef struct elephant_limits {
     uint64_t events;       /* with a history: events answered, at most 1,000,000,000; else not counted */
     uint64_t files;        /* at most 100,000 */
@@ -171,8 +173,8 @@ int32_t elephant_open_largest(elephant *e, uint32_t history);
 /* Drops the store and frees its memory; you can open the handle again. A closed handle stays closed. */
 void elephant_close(elephant *e);
 
-/* Returns the detail of ELEPHANT_FORGOTTEN and ELEPHANT_FULL. NO_RESULT after any other answer. A call that returns 64 to 70 has no
- * answer: the one before it stays. */
+/* Returns the detail of ELEPHANT_FORGOTTEN and ELEPHANT_FULL. NO_RESULT after any other answer. A call that returns 64 to 70, 72 or 73 has
+ * no answer, and elephant_checkpoint never has one: the one before it stays. After elephant_renew there is none. */
 int32_t elephant_detail(const elephant *e, uint64_t *detail);
 
 /* How many of each kind were ever made, as the limits count them. A limit less its count is what may still be made. */
@@ -202,8 +204,9 @@ int32_t elephant_line(elephant *e, const void *line, size_t len, uint64_t *lengt
  * only look: elephant_now, elephant_take, elephant_row_.., elephant_history and the like. UNTOLD. */
 int32_t elephant_tell(elephant *e, uint64_t *length);
 
-/* Copies the text that elephant_line or elephant_tell made last, from `offset` on, at most `room` bytes. *copied: how many, 0 at and
- * past its end. You may copy it in pieces, with other calls between: the text stays until the next call of these two. */
+/* Copies the text that elephant_line, elephant_tell or elephant_checkpoint made last, from `offset` on, at most `room` bytes. *copied:
+ * how many, 0 at and past its end. You may copy it in pieces, with other calls between: the text stays until the next call of these
+ * three. */
 int32_t elephant_answer(const elephant *e, uint64_t offset, void *into, size_t room, uint64_t *copied);
 
 /* ---- The clock ---- */
@@ -495,6 +498,35 @@ int32_t elephant_history(const elephant *e, uint64_t *folded, uint64_t *entries)
 
 /* Folds all entries into the base, and frees them. *folded: how many they were. */
 int32_t elephant_trim(elephant *e, uint64_t *folded);
+
+/* ---- Checkpoints ----
+ * A checkpoint is a whole store as bytes: the moment, names, files, versions, groups, open handles and drafts, the counts and the
+ * limits, but no history. Two stores have the same bytes only if they are the same in all of these. The bytes have a sum, so damage
+ * is found. They are no secret and no signature: whoever can change them can make the sum too. */
+
+/* Makes the checkpoint of the store the text that elephant_answer copies, of *length bytes. The store and the kept result stay. It
+ * takes memory for a copy of the store and for the text; after NO_MEMORY the text is the one before. */
+int32_t elephant_checkpoint(elephant *e, uint64_t *length);
+
+/* Opens the store that these bytes are the checkpoint of. What was open in it is open again, by the same numbers. With `history` not 0
+ * the store also keeps a history, which begins there, with one folded event. OPENED, BAD_CHECKPOINT, NO_MEMORY; HISTORY_FULL if the
+ * limits in the checkpoint allow a history no event. */
+int32_t elephant_open_checkpoint(elephant *e, const void *bytes, size_t len, uint32_t history);
+
+/* ---- Renewal ---- */
+
+/* Gives directories, files and versions fresh numbers, and counts only what is held, so that a store near its limits can go on. Each
+ * path leads to the same at each moment, with the same contents, moments, policies and marks. Close all handles first. A history
+ * begins anew there, with one folded event, and keeps nothing of what was before. The kept result is dropped, since it has the old
+ * numbers. HANDLES_OPEN; HISTORY_FULL if the limits allow a history no event. */
+int32_t elephant_renew(elephant *e);
+
+/* Return the number that a directory, a file, or a version of the file of that number will have after elephant_renew: ask before it.
+ * NO_RESULT: there is no such one, as of a removed version. The kept result stays. Each call copies the whole store to look, and
+ * takes that much time and memory. */
+int32_t elephant_directory_across(const elephant *e, uint64_t directory, uint64_t *fresh);
+int32_t elephant_file_across(const elephant *e, uint64_t file, uint64_t *fresh);
+int32_t elephant_version_across(const elephant *e, uint64_t file, uint64_t version, uint64_t *fresh);
 
 #ifdef __cplusplus
 }

@@ -131,7 +131,7 @@ def complaints(tree: Tree, facts: Facts) -> Iterator[str]:
     yield from differing("the columns of ", found.rows, facts.rows)
     # The calls that aren't exports are printed.
     exports = {name: it for name, it in facts.exports.items() if name.startswith("elephant_")}
-    calls = {name: Call(it.result, list(unnamed(it.parameters))) for name, it in found.calls.items() if name in exports}
+    calls = {name: Call(it.result, list(as_exported(it.parameters))) for name, it in found.calls.items() if name in exports}
     yield from differing("", calls, exports)
     if re.findall(r"#define ELEPHANT_NEVER (.*)", tree[HEADER]) != ["UINT64_MAX"]:
         yield f"{HEADER}: ELEPHANT_NEVER isn't UINT64_MAX"
@@ -140,9 +140,13 @@ def complaints(tree: Tree, facts: Facts) -> Iterator[str]:
     yield from differing("the most of ", most, facts.most())
 
 
-def unnamed(parameters: list[Parameter]) -> Iterator[Parameter]:
-    """Yields parameters, of which the length of a text has no name. A length follows its text."""
-    return (it._replace(name="") if it.kind == "size_t" and re.fullmatch(r"(\w+_)?len|room", it.name) else it for it in parameters)
+def as_exported(parameters: list[Parameter]) -> Iterator[Parameter]:
+    """Yields parameters as an export has them: the length of a text, which follows it, has no name, and no handle is const."""
+    for it in parameters:
+        if it.kind == "size_t" and re.fullmatch(r"(\w+_)?len|room", it.name):
+            yield it._replace(name="")
+        else:
+            yield it._replace(kind="elephant *") if it.kind == "const elephant *" else it
 
 
 def differing(what: str, has: Mapping[str, object], wanted: Mapping[str, object]) -> Iterator[str]:

@@ -2,4 +2,5 @@ pub mod Held
 pub mod Given
 pub mod Stored
 pub mod Calls
+pub mod Checkpoints
 pub mod Straight

@@ -7,11 +7,13 @@ ghost use Rattle.ele_c.specs.declared.handle.Elephant.{Elephant};
 ghost use Rattle.ele_c.specs.Given.{given, handle_at};
 
 mod answers;
+mod checkpoints;
 mod events;
 mod fresh;
 mod handle;
 mod lines;
 mod opens;
+mod renewal;
 
 use box_parts::Parts;
 pub use ele_c_values::{LimitFields, Numbers};

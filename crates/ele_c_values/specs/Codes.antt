@@ -1,6 +1,10 @@
 -- The codes and numbers of a result, as C gets them.
 use Rattle.std.specs.Prelude.{ℕ, ◌-◌, ◌^◌, length, Option, Some, None, Ok, Err}
 use Rattle.ele_embed.specs.Embedding.{Embedding, reply_of}
+use Rattle.ele_embed.specs.declared.checkpoint.CheckpointError.{CheckpointError}
+use Rattle.ele_embed.specs.declared.checkpoint.CheckpointError.TheVariants as checkpoint
+use Rattle.ele_embed.specs.declared.renewal.RenewalError.{RenewalError}
+use Rattle.ele_embed.specs.declared.renewal.RenewalError.TheVariants as renewal
 use Rattle.ele_model.specs.Answers.{refusal_number, stop_number}
 use Rattle.ele_model.specs.declared.pass.PassEnd.TheVariants.{Stopped as PassStopped}
 use Rattle.ele_model.specs.declared.refusal.Refusal.{Refusal}
@@ -32,6 +36,16 @@ said_code said reply = reply_code reply
 
 abbrev pub code_of : Embedding → ℕ
 code_of store = said_code store.said (reply_of store)
+
+-- the code of an error: that of a stop, 72 of bytes that have no world in which a run may begin, 73 of an open handle
+abbrev pub checkpoint_code : CheckpointError → ℕ
+checkpoint_code (checkpoint.Damaged damage) = 72
+checkpoint_code (checkpoint.Fault fault) = 72
+checkpoint_code (checkpoint.Stop stop) = stop_number stop
+
+abbrev pub renewal_code : RenewalError → ℕ
+renewal_code renewal.Open = 73
+renewal_code (renewal.Stop stop) = stop_number stop
 
 -- the number in a reply; for a list and for bytes, how many there are
 abbrev pub reply_number : Option Reply → ℕ

@@ -2,9 +2,9 @@
 ghost use Rattle.std.specs.Prelude.{◌≡◌, pos};
 ghost use Rattle.std.specs.Option.{option_copied};
 ghost use Rattle.ele_c_values.specs.Numbers.{or_never};
-ghost use Rattle.ele_c_values.specs.Codes.{code_of, detail_in, detail_of, limit_number, number_of, number_or_zero, reply_code, reply_detail, reply_number};
+ghost use Rattle.ele_c_values.specs.Codes.{checkpoint_code, code_of, detail_in, detail_of, limit_number, number_of, number_or_zero, renewal_code, reply_code, reply_detail, reply_number};
 
-use ele_embed::{Said, Store};
+use ele_embed::{CheckpointError, RenewalError, Said, Store};
 use ele_model::{Moment, PassEnd, Refusal, Reply, VersionNo, Which};
 
 /// Success.
@@ -27,6 +27,10 @@ pub const NO_ROW: i32 = 69;
 pub const NO_ROOM: i32 = 70;
 /// Memory for the text was refused.
 pub const UNTOLD: i32 = 71;
+/// The bytes are no checkpoint of a store.
+pub const BAD_CHECKPOINT: i32 = 72;
+/// A handle is open.
+pub const HANDLES_OPEN: i32 = 73;
 
 /// Neither a moment nor a level.
 pub const NEVER: u64 = u64::MAX;
@@ -62,6 +66,26 @@ fn reply_code(reply: Option<&Reply>) -> i32
     match reply {
         Some(Reply::Refused(refusal)) => refusal.number() as i32,
         _ => OK,
+    }
+}
+
+/// Returns the code of an error of a checkpoint.
+pub fn checkpoint_code(error: CheckpointError) -> i32
+    ensures { result ≡ pos (checkpoint_code error) }
+{
+    match error {
+        CheckpointError::Damaged(_) | CheckpointError::Fault(_) => BAD_CHECKPOINT,
+        CheckpointError::Stop(stop) => stop.number() as i32,
+    }
+}
+
+/// Returns the code of an error of a renewal.
+pub fn renewal_code(error: RenewalError) -> i32
+    ensures { result ≡ pos (renewal_code error) }
+{
+    match error {
+        RenewalError::Open => HANDLES_OPEN,
+        RenewalError::Stop(stop) => stop.number() as i32,
     }
 }
 
