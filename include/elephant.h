@@ -505,7 +505,8 @@ int32_t elephant_trim(elephant *e, uint64_t *folded);
  * is found. They are no secret and no signature: whoever can change them can make the sum too. */
 
 /* Makes the checkpoint of the store the text that elephant_answer copies, of *length bytes. The store and the kept result stay. It
- * takes memory for a copy of the store and for the text; after NO_MEMORY the text is the one before. */
+ * takes memory for a copy of the store and for the text; after NO_MEMORY the text is the one before. The store keeps the memory of its
+ * longest text until it is closed. */
 int32_t elephant_checkpoint(elephant *e, uint64_t *length);
 
 /* Opens the store that these bytes are the checkpoint of. What was open in it is open again, by the same numbers. With `history` not 0

@@ -143,6 +143,10 @@ ATTEMPT(unmark, elephant_unmark(e, TEXT("g"), 5))
 ATTEMPT(groups, elephant_groups(e, &out.number))
 ATTEMPT(why, elephant_why(e, TEXT("/f"), ELEPHANT_VERSION, 2, &out.why))
 ATTEMPT(clean, elephant_clean(e, &out.key))
+ATTEMPT(checkpoint, elephant_checkpoint(e, &out.number))
+ATTEMPT(directory_across, elephant_directory_across(e, 2, &out.number))
+ATTEMPT(file_across, elephant_file_across(e, 2, &out.number))
+ATTEMPT(version_across, elephant_version_across(e, 1, 2, &out.number))
 
 #define NAMED(name) {#name, name}
 
@@ -156,6 +160,7 @@ static const struct attempt attempts[] = {
     NAMED(group_add),      NAMED(group_remove),  NAMED(mark),          NAMED(mark_until),    NAMED(unmark),       NAMED(groups),
     NAMED(why),            NAMED(clean),         NAMED(read_into),     NAMED(read_handle_into), NAMED(abandon),   NAMED(save_over),
     NAMED(save_large),     NAMED(save_none),     NAMED(save_new),      NAMED(restore_own),   NAMED(restore_dead), NAMED(restore_left),
+    NAMED(checkpoint),     NAMED(directory_across), NAMED(file_across), NAMED(version_across),
 };
 
 /* A store in which each of these calls has something to do. */
@@ -261,6 +266,71 @@ static void refuse_open(uint32_t history) {
         } else {
             WANT(code == ELEPHANT_OK);
         }
+        elephant_delete(e);
+        if (!seen) return;
+    }
+}
+
+/* Opening a checkpoint: the handle stays closed. */
+static void refuse_open_checkpoint(uint32_t history) {
+    elephant *e = ready(0), *back;
+    uint64_t length, copied;
+    char *bytes;
+    tell_all(&before, e);
+    OK(elephant_checkpoint(e, &length));
+    bytes = malloc(length);
+    WANT(bytes);
+    OK(elephant_answer(e, 0, bytes, length, &copied));
+    elephant_delete(e);
+    elephant_new(&back);
+    WANT(back);
+    for (long growth = 0;; growth++) {
+        int32_t code;
+        seen = 0;
+        left = growth;
+        code = elephant_open_checkpoint(back, bytes, length, history);
+        left = -1;
+        if (code == ELEPHANT_NO_MEMORY) {
+            WANT(seen);
+            refused++;
+            CODE(ELEPHANT_CLOSED, elephant_now(back, &copied));
+            OK(elephant_open_checkpoint(back, bytes, length, history));
+        } else {
+            WANT(code == ELEPHANT_OK);
+        }
+        tell_all(&after, back);
+        WANT(before.length == after.length && !memcmp(before.text, after.text, before.length));
+        elephant_close(back);
+        if (!seen) break;
+    }
+    elephant_delete(back);
+    free(bytes);
+}
+
+/* A renewal: the store is as it was, with its history. */
+static void refuse_renew(uint32_t history) {
+    for (long growth = 0;; growth++) {
+        elephant *e = ready(history);
+        uint64_t number, events;
+        int32_t code;
+        OK(elephant_close_handle(e, 3, &number));
+        OK(elephant_close_handle(e, 4, &number));
+        tell_all(&before, e);
+        events = answered(e, history);
+        seen = 0;
+        left = growth;
+        code = elephant_renew(e);
+        left = -1;
+        if (code == ELEPHANT_NO_MEMORY) {
+            WANT(seen && answered(e, history) == events);
+            refused++;
+            tell_all(&after, e);
+            WANT(before.length == after.length && !memcmp(before.text, after.text, before.length));
+            OK(elephant_renew(e));
+        } else {
+            WANT(code == ELEPHANT_OK);
+        }
+        WANT(answered(e, history) == history);
         elephant_delete(e);
         if (!seen) return;
     }
@@ -405,6 +475,8 @@ static void bad_arguments_take_no_memory(void) {
 
 static void refuse_all(uint32_t history) {
     refuse_open(history);
+    refuse_open_checkpoint(history);
+    refuse_renew(history);
     for (size_t at = 0; at < sizeof attempts / sizeof *attempts; at++) refuse_each(&attempts[at], history);
     refuse_pass(history);
 }
