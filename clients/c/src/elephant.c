@@ -74,6 +74,8 @@ const char *elephant_code_text(int32_t code) {
     case 69: return "NoRow: the kept list has no row of that index";
     case 70: return "NoRoom: the buffer is too small, and nothing is copied";
     case 71: return "Untold: the line was run, but there was no memory for the text of its answer";
+    case 72: return "BadCheckpoint: the bytes are no checkpoint of a store";
+    case 73: return "HandlesOpen: a handle is open";
     default: return "no code has this number";
     }
 }

@@ -171,6 +171,8 @@ errors! {
     BadLimits = ELEPHANT_BAD_LIMITS, "a limit is above its largest";
     NoHistory = ELEPHANT_NO_HISTORY, "the store was opened without a history";
     Untold = ELEPHANT_UNTOLD, "the line was run, but there was no memory for the text of its answer";
+    BadCheckpoint = ELEPHANT_BAD_CHECKPOINT, "the bytes are no checkpoint of a store";
+    HandlesOpen = ELEPHANT_HANDLES_OPEN, "a handle is open";
 }
 // End of the codes.
 

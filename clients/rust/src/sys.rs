@@ -49,6 +49,8 @@ pub const ELEPHANT_SYNTAX: i32 = 32;
 pub const ELEPHANT_BAD_LIMITS: i32 = 66;
 pub const ELEPHANT_NO_HISTORY: i32 = 67;
 pub const ELEPHANT_UNTOLD: i32 = 71;
+pub const ELEPHANT_BAD_CHECKPOINT: i32 = 72;
+pub const ELEPHANT_HANDLES_OPEN: i32 = 73;
 
 pub const ELEPHANT_LIMIT_FILES: u64 = 1;
 pub const ELEPHANT_LIMIT_DIRECTORIES: u64 = 2;
@@ -286,4 +288,10 @@ extern "C" {
     pub fn elephant_pass(e: *mut elephant, budget: u64, removed: *mut u64, finished: *mut u64) -> i32;
     pub fn elephant_history(e: *const elephant, folded: *mut u64, entries: *mut u64) -> i32;
     pub fn elephant_trim(e: *mut elephant, folded: *mut u64) -> i32;
+    pub fn elephant_checkpoint(e: *mut elephant, length: *mut u64) -> i32;
+    pub fn elephant_open_checkpoint(e: *mut elephant, bytes: *const u8, len: usize, history: u32) -> i32;
+    pub fn elephant_renew(e: *mut elephant) -> i32;
+    pub fn elephant_directory_across(e: *const elephant, directory: u64, fresh: *mut u64) -> i32;
+    pub fn elephant_file_across(e: *const elephant, file: u64, fresh: *mut u64) -> i32;
+    pub fn elephant_version_across(e: *const elephant, file: u64, version: u64, fresh: *mut u64) -> i32;
 }

@@ -5,7 +5,7 @@ use std::collections::BTreeSet;
 use std::io::{self, ErrorKind};
 
 // The errors that are nothing but their number, with the number that include/elephant.h gives it, and its kind.
-const BARE: [(Error, i32, ErrorKind); 34] = [
+const BARE: [(Error, i32, ErrorKind); 36] = [
     (Error::NoMemory, 1, ErrorKind::OutOfMemory),
     (Error::HistoryFull, 2, ErrorKind::Other),
     (Error::ClockBack, 3, ErrorKind::Other),
@@ -40,6 +40,8 @@ const BARE: [(Error, i32, ErrorKind); 34] = [
     (Error::BadLimits, 66, ErrorKind::Other),
     (Error::NoHistory, 67, ErrorKind::Other),
     (Error::Untold, 71, ErrorKind::Other),
+    (Error::BadCheckpoint, 72, ErrorKind::Other),
+    (Error::HandlesOpen, 73, ErrorKind::Other),
 ];
 const LIMITS: [(Limit, &str); 8] = [
     (Limit::Files, "files"),

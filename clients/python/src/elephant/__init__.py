@@ -49,6 +49,7 @@ from ._audit import UnknownAnswer
 # Printed by tools/pages/surface --write: the errors, from _errors.py.
 from ._errors import (
     AlreadyMember,
+    BadCheckpoint,
     BadLadder,
     BadLimits,
     BadMoment,
@@ -66,6 +67,7 @@ from ._errors import (
     Full,
     Future,
     GroupExists,
+    HandlesOpen,
     HistoryFull,
     IntoItself,
     IsDirectory,
@@ -109,14 +111,15 @@ from ._version import __version__
 
 # Printed by tools/pages/surface --write: all names, from the imports.
 __all__ = [
-    "LAST_MOMENT", "__version__", "AlreadyMember", "Answered", "Answers", "BadLadder", "BadLimits", "BadMoment", "BadName", "BadPath",
-    "BadTime", "Cause", "ClockBack", "ClockDoubt", "ClockEnd", "Closed", "ClosedSession", "Counts", "Current", "DeadName", "DeletedName",
-    "DirectoryStat", "Drafting", "Due", "ElephantError", "Entry", "Exists", "Fate", "File", "FileStat", "Forgotten", "Full", "Future",
-    "Gone", "Group", "GroupExists", "History", "HistoryFull", "IntoItself", "IsDirectory", "IsRoot", "JournalDamaged", "JournalError",
-    "JournalLocked", "JournalLost", "KeepAll", "KeepOne", "KeepSafe", "Kept", "Landmarks", "Limits", "Mark", "Marked", "MarkExists",
-    "MassRemoval", "Moment", "NoEntry", "NoGroup", "NoHandle", "NoHistory", "NoMark", "NoMemory", "NotAhead", "NotDirectory", "NotEmpty",
-    "NotMember", "NotPast", "NotRestorable", "NotWriter", "NoVersion", "Open", "OpenHandle", "Pass", "PathEntry", "Policy", "read_time",
-    "Reader", "ReadOnly", "Recovered", "Refused", "Removable", "Removal", "RemovalWaits", "Removed", "RestoredTree", "Session", "Stop",
-    "Store", "Syntax", "TextFile", "Time", "TooBig", "TreeStep", "UnknownAnswer", "Untold", "Usage", "Version", "Waiting",
+    "LAST_MOMENT", "__version__", "AlreadyMember", "Answered", "Answers", "BadCheckpoint", "BadLadder", "BadLimits", "BadMoment", "BadName",
+    "BadPath", "BadTime", "Cause", "ClockBack", "ClockDoubt", "ClockEnd", "Closed", "ClosedSession", "Counts", "Current", "DeadName",
+    "DeletedName", "DirectoryStat", "Drafting", "Due", "ElephantError", "Entry", "Exists", "Fate", "File", "FileStat", "Forgotten", "Full",
+    "Future", "Gone", "Group", "GroupExists", "HandlesOpen", "History", "HistoryFull", "IntoItself", "IsDirectory", "IsRoot",
+    "JournalDamaged", "JournalError", "JournalLocked", "JournalLost", "KeepAll", "KeepOne", "KeepSafe", "Kept", "Landmarks", "Limits",
+    "Mark", "Marked", "MarkExists", "MassRemoval", "Moment", "NoEntry", "NoGroup", "NoHandle", "NoHistory", "NoMark", "NoMemory",
+    "NotAhead", "NotDirectory", "NotEmpty", "NotMember", "NotPast", "NotRestorable", "NotWriter", "NoVersion", "Open", "OpenHandle", "Pass",
+    "PathEntry", "Policy", "read_time", "Reader", "ReadOnly", "Recovered", "Refused", "Removable", "Removal", "RemovalWaits", "Removed",
+    "RestoredTree", "Session", "Stop", "Store", "Syntax", "TextFile", "Time", "TooBig", "TreeStep", "UnknownAnswer", "Untold", "Usage",
+    "Version", "Waiting",
 ]
 # End of all names.

@@ -211,6 +211,14 @@ class Untold(ElephantError, MemoryError, number=71):
     """The line was run, but there was no memory for the text of its answer."""
 
 
+class BadCheckpoint(ElephantError, ValueError, number=72):
+    """The bytes are no checkpoint of a store."""
+
+
+class HandlesOpen(ElephantError, ValueError, number=73):
+    """A handle is open."""
+
+
 # End of the codes.
 
 
