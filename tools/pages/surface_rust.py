@@ -75,7 +75,7 @@ def lines_of_sys(of_c: Declared, left_out: set[str]) -> Iterator[str]:
 
 def sys_of(tree: Tree, facts: Facts) -> str:
     head = f"//! The declarations of `{HEADER}`.\n// {HEAD}, from {HEADER}.\n"
-    left_out = {facts.code(it).in_c() for it in words.NEVER_IN_RUST}
+    left_out = {facts.code(it).in_c() for it in words.NEVER_IN_RUST - words.NAMED_IN_RUST}
     return head + HANDLE + "\n" + "".join(f"{it}\n" for it in lines_of_sys(declared(tree[HEADER]), left_out))
 
 

@@ -36,8 +36,9 @@ NEVER_IN_RUST = {"Closed", "Opened", "NoResult", "NoRow", "NoRoom"}
 UNUSED_IN_RUST = {"elephant_open_largest", "elephant_close"}
 # Codes with a detail: their variants and classes are written by hand.
 BY_HAND = {"Forgotten", "Full"}
-# The numbers that Python's code names.
-NAMED_IN_PYTHON = ["NoEntry"]
+# The numbers that Python's code names, and those without an error that Rust's does.
+NAMED_IN_PYTHON = ["NoEntry", "NoResult"]
+NAMED_IN_RUST = {"NoResult"}
 
 # What docs/SCRIPT.md says of a limit in place of the help. `{makers}` are the commands that raise its count.
 LIMITS_OF_SCRIPT = {
