@@ -107,11 +107,12 @@ LINES = (
 )
 ROWS: dict[type, dict[str, list[Call]]] = {
     Store: {
-        "ahead": [lambda it: it.store.ahead(LASTING)], "answers": [], "clean": [lambda it: it.store.clean()],
-        "clock": [lambda it: it.store.clock(30)],
+        "ahead": [lambda it: it.store.ahead(LASTING)], "answers": [], "checkpoint": [lambda it: it.store.checkpoint()],
+        "clean": [lambda it: it.store.clean()], "clock": [lambda it: it.store.clock(30)],
         "close": [lambda it: it.store.close()], "counts": [lambda it: it.store.counts()],
-        "create": [lambda it: it.store.create("/n")],
-        "due": [lambda it: it.store.due()], "dump": [lambda it: it.store.dump()], "gone": [],
+        "create": [lambda it: it.store.create("/n")], "directory_across": [lambda it: it.store.directory_across(1)],
+        "due": [lambda it: it.store.due()], "dump": [lambda it: it.store.dump()],
+        "file_across": [lambda it: it.store.file_across(2)], "from_checkpoint": [], "gone": [],
         "group_add": [lambda it: it.store.group_add("k", "/d/f")], "group_drop": [lambda it: it.store.group_drop("k")],
         "group_make": [lambda it: it.store.group_make("m")], "group_remove": [lambda it: it.store.group_remove("k", "/t")],
         "groups": [lambda it: it.store.groups()], "handles": [], "history": [], "line": [asks(line) for line in LINES],
@@ -127,6 +128,7 @@ ROWS: dict[type, dict[str, list[Call]]] = {
         "path_of": [lambda it: it.store.path_of(2)], "paths_of": [lambda it: it.store.paths_of(1)],
         "read": [lambda it: it.store.read("/d/f", version=2)],
         "reader": [lambda it: it.store.reader("/d/f", at=10)], "rename": [lambda it: it.store.rename("/d", "/e")],
+        "renew": [lambda it: it.store.renew()],
         "restorable": [lambda it: it.store.restorable()],
         "restore": [
             lambda it: it.store.restore("/d/f", 5), lambda it: it.store.restore("/was", 5), lambda it: it.store.restore("/s", 10),
@@ -147,6 +149,7 @@ ROWS: dict[type, dict[str, list[Call]]] = {
         "trust_clock": [lambda it: it.store.trust_clock()],
         "undelete": [lambda it: it.store.undelete("/g")], "unlink": [lambda it: it.store.unlink("/d/f")],
         "unmark": [lambda it: it.store.unmark("k", 5)], "usage": [lambda it: it.store.usage()],
+        "version_across": [lambda it: it.store.version_across(1, 2)],
         "versions": [lambda it: it.store.versions("/d/f")], "walk": [lambda it: it.store.walk()],
         "why": [lambda it: it.store.why("/d/f", version=2)],
     },

@@ -336,7 +336,8 @@ class Answers(NamedTuple):
 
 
 class ClosedSession(NamedTuple):
-    """A session that a journal left open, and the number of the version that its draft became (None: nothing was changed)."""
+    """A session that a journal or a checkpoint left open, and the number of the version that its draft became (None: nothing was changed).
+    `path` is "" if a checkpoint has no live name of the file."""
 
     path: str
     version: Optional[int]
@@ -344,7 +345,8 @@ class ClosedSession(NamedTuple):
 
 class Recovered(NamedTuple):
     """What the opening of a journal repaired: how many bytes after the last whole change it cut off (a store that is read only left them
-    out), which sessions it closed, and with `repair=True` the path of the file that has the bytes of a damaged end, else ""."""
+    out), which sessions it closed, and with `repair=True` the path of the file that has the bytes of a damaged end, else "". The opening of
+    a checkpoint only closes sessions."""
 
     cut: int = 0
     closed: tuple[ClosedSession, ...] = ()

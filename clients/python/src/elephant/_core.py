@@ -3,6 +3,7 @@
 from __future__ import annotations
 
 import ctypes
+import io
 import operator
 import weakref
 from collections.abc import Callable, Iterator
@@ -22,12 +23,13 @@ from ._errors import (
     IsDirectory,
     IsRoot,
     NoEntry,
+    NoHandle,
     NoMemory,
     NotDirectory,
     Untold,
     error_of,
 )
-from ._library import FILE_NAME, NOW, CountsRow, KeyRow, LimitsRow, StatRow, VersionRow, library
+from ._library import FILE_NAME, NO_RESULT, NOW, CountsRow, KeyRow, LimitsRow, StatRow, VersionRow, library
 from ._names import MOST_NAME
 from ._policies import KeepAll, KeepOne, KeepSafe, Landmarks, Policy
 
@@ -39,7 +41,9 @@ _TOLD_MORE = (Forgotten.number, Full.number)
 # Of `link` and `rename`: refusals of the path that is first found to be wrong, and those of a path that only one of the two may be.
 _OF_EITHER = (NoEntry.number, NotDirectory.number, BadPath.number, BadName.number)
 _OF_FIRST, _OF_SECOND = (IsDirectory.number,), (Exists.number, IntoItself.number)
-_LEAST_ROOM = 1 << 12
+_LEAST_ROOM, _COPIED_AT_ONCE = 1 << 12, 1 << 20
+# The bytes of the length and the sum of a checkpoint.
+_AFTER_LIMITS = 12
 
 
 def natural(value: SupportsIndex, what: str) -> int:
@@ -55,13 +59,29 @@ def as_bytes(data: ReadableBuffer) -> bytes:
     return data if type(data) is bytes else bytes(memoryview(data))
 
 
+def limits_in(checkpoint: bytes) -> Limits:
+    """Returns the limits of a store, of a checkpoint that the library took. They are the last numbers before the length and the sum, with
+    seven bits in each byte, the lowest first, and 128 added to all bytes but the last one of a number."""
+    found: list[int] = []
+    at = len(checkpoint) - _AFTER_LIMITS
+    while len(found) < len(Limits._fields):
+        at -= 1
+        number = checkpoint[at]
+        while checkpoint[at - 1] >= 128:
+            at -= 1
+            number = (number << 7) | (checkpoint[at] & 127)
+        found.append(number)
+    return Limits(*reversed(found))
+
+
 class Core:
     """An open store of the library. One call at a time.
 
     `is_ahead` is set by `do`, `ask`, `clean` and `line`, the calls that may change something. Who has stored the change clears it.
     """
 
-    def __init__(self, limits: Limits, history: bool) -> None:
+    def __init__(self, limits: Limits, history: bool, checkpoint: Optional[bytes] = None) -> None:
+        """Opens a fresh store with the limits, or the one of a checkpoint, which has its own."""
         self.library = library()
         handle = c_void_p()
         self.library.elephant_new(byref(handle))
@@ -78,6 +98,14 @@ class Core:
         self._stat_row: Any = StatRow()
         self._stat_row_at = ctypes.addressof(self._stat_row)
         self.name_room = ctypes.create_string_buffer(MOST_NAME)
+        if checkpoint is None:
+            self._open(limits, history)
+        else:
+            code = self.library.elephant_open_checkpoint(self.handle, checkpoint, len(checkpoint), int(history))
+            if code:
+                self.refuse(code)
+
+    def _open(self, limits: Limits, history: bool) -> None:
         row = LimitsRow(*(natural(number, name) for name, number in zip(limits._fields, limits)))
         code = self.library.elephant_open(self.handle, byref(row), int(history))
         if code == BadLimits.number:
@@ -127,6 +155,13 @@ class Core:
         )
         return code
 
+    def is_open(self, handle: int) -> bool:
+        """Whether a handle is open. It leaves the kept result and the last detail, and is no event."""
+        code: int = self.library.elephant_read_handle_into(self.handle, handle, 0, self._room, 0, self.number_at, byref(self._second))
+        if code not in (0, NoHandle.number):
+            self.refuse(code, f"handle {handle}")
+        return not code
+
     def ask(self, call: Call, subject: object, *words: object) -> int:
         """Makes a call that may change something and returns one number, and returns it."""
         number = self.look(call, subject, *words)
@@ -136,6 +171,15 @@ class Core:
     def look(self, call: Call, subject: object, *words: object) -> int:
         """Makes a call that changes nothing and returns one number, and returns it."""
         code = call(self.handle, *words, self.number_at)
+        if code:
+            self.refuse(code, subject)
+        return self._number.value
+
+    def found(self, call: Call, subject: object, *words: object) -> Optional[int]:
+        """Makes a call that changes nothing and returns one number, and returns it, or None if there is none."""
+        code = call(self.handle, *words, self.number_at)
+        if code == NO_RESULT:
+            return None
         if code:
             self.refuse(code, subject)
         return self._number.value
@@ -166,6 +210,15 @@ class Core:
         if code:
             self.refuse(code)
         return ctypes.string_at(self._room, self._number.value)
+
+    def checkpoint(self) -> bytes:
+        """Returns the store as bytes."""
+        length = self.look(self.library.elephant_checkpoint, "checkpoint")
+        room, copied = ctypes.create_string_buffer(min(length, _COPIED_AT_ONCE)), io.BytesIO()
+        for offset in range(0, length, _COPIED_AT_ONCE):
+            count = self.look(self.library.elephant_answer, "checkpoint", offset, room, len(room))
+            copied.write(memoryview(room)[:count])
+        return copied.getvalue()
 
     def row_name(self, index: int) -> bytes:
         """Returns the name in a row of the kept list."""

@@ -256,6 +256,10 @@ class MassRemoval(RemovalWaits):
     """A pass would remove much at once, and wasn't confirmed: `count` of the `held` versions, which wait for a day. Nothing was removed."""
 
 
+class HasJournal(ElephantError, ValueError):
+    """The store has a journal, and `renew` is for a store without one. Nothing has changed."""
+
+
 class ReadOnly(ElephantError):
     """The store was opened with `read_only=True`, and the call would change it. The core wasn't asked."""
 

@@ -25,9 +25,10 @@ class _Departed(NamedTuple):
 
 
 class _Memory:
-    """What a guarded store remembers: what was announced, and which files lost a name."""
+    """What a guarded store remembers: what was announced, and which files lost a name. `knows_past`: also before it was opened."""
 
-    def __init__(self) -> None:
+    def __init__(self, knows_past: bool) -> None:
+        self.knows_past = knows_past
         self.announced, self.found = Announced(), Announced(b"found")
         self.departed: dict[int, _Departed] = {}
         """By the number of the file. It lacks files whose last version nobody would miss."""
@@ -90,7 +91,7 @@ class Forgetting(Saves):
     """A store whose versions you let go."""
 
     def __init__(self, opening: Opening) -> None:
-        self._memory = _Memory() if opening.is_guarded else None
+        self._memory = _Memory(opening.checkpoint is None) if opening.is_guarded else None
         self._guard: Optional[Guard] = None
         self.waiting = Waiting(0, None)
         """What the guard kept at the last `pass_` or `clean`."""
@@ -111,6 +112,13 @@ class Forgetting(Saves):
     def _note_return(self, core: Core, path: bytes) -> None:
         if self._memory is not None:
             self._memory.note_return(core, path)
+
+    def _note_renewal(self) -> None:
+        """Forgets what has the numbers of before, so that all that is due waits anew."""
+        self.waiting = Waiting(0, None)
+        if self._memory is not None and self._watch is not None:
+            it = self._memory = _Memory(False)
+            self._guard = Guard(it.announced, self._now, self._watch.steady, self._now, self._now, it.found)
 
     def _note_time(self) -> None:
         self._granted = 0
@@ -227,6 +235,11 @@ class Forgetting(Saves):
         """Returns the last versions of deleted files among these."""
         assert self._memory is not None
         departed = self._memory.departed
+        if not self._memory.knows_past:
+            # It isn't known which version was a deleted file's last one.
+            deleted = {it.number for it in self.restorable() if not it.is_directory} - departed.keys()
+            departed.update((file, _Departed(0, False)) for file in deleted)
+            self._memory.knows_past = True
         lost = {key.file for key in due if key.file in departed}
         if not all(departed[file].is_nameless for file in lost):
             named_now = {it.number for it in self.walk() if not it.is_directory}

@@ -25,15 +25,16 @@ TextMode = Literal["r", "w", "a", "x", "r+", "w+", "a+", "x+", "rt", "wt", "at",
 
 
 class _Base(NamedTuple):
-    """A file when it was opened: its number, its version's number, and the content."""
+    """A file when it was opened: its number, its version's number, the content, and how often numbers were made anew before."""
 
     file: int
     version: int
     content: bytes
+    renewals: int
 
 
 # The base of a file that is written anew.
-_CUT_OFF = _Base(0, 0, b"")
+_CUT_OFF = _Base(0, 0, b"", 0)
 
 
 class Saves(Parents):
@@ -98,7 +99,7 @@ class Saves(Parents):
             if mode.kind == "w":
                 return _CUT_OFF
             file, version = row.id, row.version
-            return _Base(file, version, core.read(path, name, NOW, 0))
+            return _Base(file, version, core.read(path, name, NOW, 0), self._renewals)
 
     def save(self, path: Path, content: ReadableBuffer, *, parents: bool = False) -> int:
         """Makes the content the file's newest version, whole or not at all, and returns its number. Makes the file if it doesn't exist,
@@ -120,7 +121,8 @@ class Saves(Parents):
         with self._lock, self._change as core:
             if base is not None and kind != "w":
                 row = core.stat(path, name)
-                if len(content) > MOST_PIECE and (row.id, row.version) == (base.file, base.version):
+                is_same = (row.id, row.version, self._renewals) == (base.file, base.version, base.renewals)
+                if len(content) > MOST_PIECE and is_same:
                     start, end = _changed(base.content, content)
                     return self._write(core, path, name, content[start:end], start, len(content))
             if kind == "x" and self._is_there(core, path, name):

@@ -2,6 +2,8 @@
 
 from __future__ import annotations
 
+from collections.abc import Iterator
+from contextlib import contextmanager
 from types import TracebackType
 from typing import TYPE_CHECKING, Optional
 
@@ -16,21 +18,28 @@ class Handle:
 
     def __init__(self, store: Drafts, path: str, number: int) -> None:
         self._store, self.path, self.number = store, path, number
+        self._renewals = store._renewals
         self.is_closed = False
 
-    def _checked(self) -> Drafts:
-        if self.is_closed:
-            raise Closed(f"handle {self.number} of {self.path}")
-        return self._store
+    @contextmanager
+    def _checked(self) -> Iterator[Drafts]:
+        """Gives the store, with its lock held. Raises Closed also if the numbers were made anew since: another handle may have this one.
+        """
+        with self._store._lock:
+            if self.is_closed or self._renewals != self._store._renewals:
+                raise Closed(f"handle {self.number} of {self.path}")
+            yield self._store
 
     def read(self) -> bytes:
         """Returns what the handle reads; a session reads its draft."""
-        return self._checked()._read_handle(self.number)
+        with self._checked() as store:
+            return store._read_handle(self.number)
 
     def _close(self) -> Optional[int]:
-        version = self._checked()._close_handle(self.number)
-        self.is_closed = True
-        return version
+        with self._checked() as store:
+            version = store._close_handle(self.number)
+            self.is_closed = True
+            return version
 
     def __exit__(self, kind: Optional[type[BaseException]], fault: Optional[BaseException], trace: Optional[TracebackType]) -> None:
         if not self.is_closed and not self._store.is_closed:
@@ -58,16 +67,19 @@ class Session(Handle):
 
     def write(self, data: bytes, offset: int = 0) -> None:
         """Writes the bytes into the draft from the offset on. Zeros fill a gap before them."""
-        self._checked()._write_handle(self.number, offset, data)
+        with self._checked() as store:
+            store._write_handle(self.number, offset, data)
 
     def truncate(self, size: int) -> None:
         """Sets the length of the draft: cuts it, or adds zeros."""
-        self._checked()._truncate_handle(self.number, size)
+        with self._checked() as store:
+            store._truncate_handle(self.number, size)
 
     def abandon(self) -> None:
         """Ends the session. If it was the file's last one, what the sessions wrote is removed, and makes no version."""
-        self._checked()._abandon_handle(self.number)
-        self.is_closed = True
+        with self._checked() as store:
+            store._abandon_handle(self.number)
+            self.is_closed = True
 
     def close(self) -> Optional[int]:
         """Closes the handle, and returns the number of the version that the close made. None if it made none."""

@@ -5,10 +5,11 @@ from __future__ import annotations
 import os
 from collections.abc import Iterator, Sequence
 from types import TracebackType
-from typing import Optional, SupportsIndex, Union
+from typing import TYPE_CHECKING, Optional, SupportsIndex, Union
 
 from ._answers import Limits
-from ._core import Core, natural
+from ._checkpoints import Checkpoints
+from ._core import Core, as_bytes, natural
 from ._drafts import UNKNOWN
 from ._dump import dump
 from ._errors import BadName, ClockDoubt, ElephantError, Refused, Untold
@@ -16,11 +17,13 @@ from ._moments import NEVER, Moment, MomentLike
 from ._names import Path, is_path_shown, require_shown, spell, spell_name
 from ._policies import Policy
 from ._replay import QUESTIONS
-from ._trees import Trees
 from ._turns import Clock, Fsync, Opening
 
+if TYPE_CHECKING:
+    from _typeshed import ReadableBuffer
 
-class Store(Trees):
+
+class Store(Checkpoints):
     """A store of files that keep their earlier versions.
 
     `journal`: the path of the file that stores it; without one the store ends with this object. `limits`: how many of each kind it may
@@ -35,6 +38,8 @@ class Store(Trees):
 
     `guard`: in a journal's store whose time follows the time of day, much isn't removed at once, and nothing within ten minutes; without
     it what is due goes at once.
+
+    `from_checkpoint` makes a store of the bytes of another one.
 
     Many threads may call a store. Paths begin with a slash. A moment is an int, of seconds since 1970, an aware datetime, or a text such
     as `2026-11-29 15:00` or `2 hours ago`, in local time.
@@ -56,6 +61,20 @@ class Store(Trees):
     ) -> None:
         path = None if journal is None else os.fspath(journal)
         super().__init__(Opening(path, limits or Limits(), history, clock, fsync, wait, read_only, at, repair, guard))
+
+    @classmethod
+    def from_checkpoint(cls, data: ReadableBuffer, *, history: bool = False, clock: Clock = "system", guard: bool = True) -> Store:
+        """Makes a store in memory of what `checkpoint` returned, with the limits that it had. Raises BadCheckpoint for other bytes.
+
+        Its moment is that of the checkpoint, and `clock` is as for `Store`: with `"system"` the first call moves it to the time of day. A
+        session that was open when the bytes were taken is closed, so what it wrote becomes a version: `recovered.closed` has its path. With
+        `history` a history begins there, with one folded event. `guard`: if the clock follows the time of day, what is due waits as in a
+        journal's store, from this opening on.
+        """
+        # Not of `cls`: a subclass may need more of its opening than the bytes have.
+        store = Store.__new__(Store)
+        Checkpoints.__init__(store, Opening(None, Limits(), history, clock, "always", 0.0, guard=guard, checkpoint=as_bytes(data)))
+        return store
 
     def __enter__(self) -> Store:
         return self

@@ -9,10 +9,11 @@ from collections.abc import Iterator, Sequence
 from types import TracebackType
 from typing import Literal, NamedTuple, Optional, Union
 
-from ._answers import ClosedSession, Limits, Recovered
+from ._answers import ClosedSession, Limits, OpenHandle, Recovered
+from ._audit import read_handles
 from ._clock import Clocks, Watch, clocks_of_system
-from ._core import Core
-from ._errors import ClockDoubt, Closed, ElephantError, JournalDamaged, JournalError, JournalLost, ReadOnly
+from ._core import Core, limits_in
+from ._errors import ClockDoubt, Closed, ElephantError, HistoryFull, JournalDamaged, JournalError, JournalLost, ReadOnly
 from ._journal import Journal
 from ._moments import MomentLike, seconds_of
 from ._names import path_of
@@ -37,6 +38,7 @@ class Opening(NamedTuple):
     at: Optional[MomentLike] = None
     repair: bool = False
     guard: bool = True
+    checkpoint: Optional[bytes] = None
 
     def check(self) -> None:
         """Raises ValueError if the arguments don't fit together."""
@@ -49,8 +51,9 @@ class Opening(NamedTuple):
 
     @property
     def is_guarded(self) -> bool:
-        """Whether a guard looks at what is to be removed: in a journal's store whose time follows the time of day."""
-        return self.guard and self.journal is not None and not self.read_only and self.clock != "manual"
+        """Whether a guard looks at what is to be removed: in a store of earlier times whose time follows the time of day."""
+        is_of_before = self.journal is not None or self.checkpoint is not None
+        return self.guard and is_of_before and not self.read_only and self.clock != "manual"
 
     def watch(self) -> Optional[Watch]:
         """Returns what watches the time of day, if the store's time follows it."""
@@ -88,7 +91,8 @@ class Turns:
         opening.check()
         self._lock = threading.RLock()
         self._change = Change(self)
-        self._opening = opening
+        # A checkpoint is read once, and isn't kept.
+        self._opening = opening._replace(checkpoint=None)
         self._watch, self._now, self._is_clock_kept = opening.watch(), 0, True
         self._has_history = opening.history
         self._failure: Optional[str] = None
@@ -100,10 +104,12 @@ class Turns:
         """Whether questions fail too, as in a forked child."""
         self._granted = 0
         """How many versions `clean` may remove before it asks the guard again, if no time passes and nothing else is changed."""
+        self._renewals = 0
+        """How often its numbers were made anew. A number of before means nothing."""
         self._core: Optional[Core] = None
         self._journal: Optional[Journal] = None
         self.recovered = Recovered()
-        core = self._new_core()
+        core = self._new_core() if opening.checkpoint is None else self._put_back(opening.checkpoint)
         if opening.journal is not None:
             self._journal = Journal(opening.journal, opening.fsync == "always", opening.wait, opening.read_only, opening.repair)
             try:
@@ -125,6 +131,35 @@ class Turns:
 
     def _new_core(self) -> Core:
         return Core(self._opening.limits, self._opening.history)
+
+    def _put_back(self, checkpoint: bytes) -> Core:
+        """Returns the core of a checkpoint, and closes the sessions and readers that were open in it."""
+        core = Core(self._opening.limits, self._has_history, checkpoint)
+        self._opening = self._opening._replace(limits=limits_in(checkpoint))
+        closed = []
+        for it in self._open_in(core, checkpoint):
+            version = core.ask(core.library.elephant_close_handle, f"handle {it.handle}", it.handle)
+            if version or it.version is None:
+                closed.append(ClosedSession(it.path or "", version or None))
+        self.recovered, self._now = Recovered(0, tuple(closed)), core.now()
+        return core
+
+    def _open_in(self, core: Core, checkpoint: bytes) -> list[OpenHandle]:
+        """Returns the handles that are open in a checkpoint, of which a core was made."""
+        if self._has_history:
+            return read_handles(core.line(b"handles"))
+        numbers = [handle for handle in range(1, core.counts().handles + 1) if core.is_open(handle)]
+        if not numbers:
+            return []
+        try:
+            # Only a store with a history says which files they are of.
+            told = Core(self._opening.limits, True, checkpoint)
+        except HistoryFull:  # the limits of the checkpoint allow none
+            return [OpenHandle(handle, 0, 0, None, None, None) for handle in numbers]
+        try:
+            return read_handles(told.line(b"handles"))
+        finally:
+            told.free()
 
     def _replay(self, core: Core, journal: Journal) -> Core:
         """Runs the journal's changes, and closes the sessions that they leave open. Returns the core that has them."""
