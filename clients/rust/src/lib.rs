@@ -34,6 +34,7 @@
 
 mod answers;
 mod audit;
+mod checkpoints;
 mod contents;
 mod error;
 mod names;

@@ -50,11 +50,7 @@ impl Options {
     /// # Errors
     /// [`Error::BadLimits`], [`Error::NoMemory`].
     pub fn open(self) -> Result<Store, Error> {
-        let mut raw = ptr::null_mut();
-        // SAFETY: it writes a pointer to `raw`.
-        unsafe { sys::elephant_new(&mut raw) };
-        let raw = NonNull::new(raw).ok_or(Error::NoMemory)?;
-        let store = Store { raw, has_history: self.history };
+        let store = Store::closed(self.history)?;
         let limits = sys::elephant_limits {
             events: self.limits.events,
             files: self.limits.files,
@@ -131,6 +127,15 @@ impl Store {
         Options::new().open()
     }
 
+    // Makes the handle of a store, which is to be opened at once.
+    pub(crate) fn closed(has_history: bool) -> Result<Store, Error> {
+        let mut raw = ptr::null_mut();
+        // SAFETY: it writes a pointer to `raw`.
+        unsafe { sys::elephant_new(&mut raw) };
+        let raw = NonNull::new(raw).ok_or(Error::NoMemory)?;
+        Ok(Store { raw, has_history })
+    }
+
     // Makes one call of the library, and reads its code.
     //
     // Each call in `made` is sound. The handle is from `elephant_new`, and the store deletes it
@@ -198,10 +203,14 @@ impl Store {
     }
 
     fn answer(&self, length: u64) -> Result<String, Error> {
-        // SAFETY: see `call`.
-        let bytes =
-            self.copied(length, |e, into, copied| unsafe { sys::elephant_answer(e, 0, into.as_mut_ptr(), into.len(), copied) })?;
+        let bytes = self.copied_answer(length)?;
         Ok(String::from_utf8_lossy(&bytes).into_owned())
+    }
+
+    // Copies the text that the last call made, of so many bytes.
+    pub(crate) fn copied_answer(&self, length: u64) -> Result<Vec<u8>, Error> {
+        // SAFETY: see `call`.
+        self.copied(length, |e, into, copied| unsafe { sys::elephant_answer(e, 0, into.as_mut_ptr(), into.len(), copied) })
     }
 
     // Copies so many bytes out.

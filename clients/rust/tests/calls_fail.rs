@@ -16,8 +16,9 @@ const UNTOLD: i32 = 71;
 const FORGOTTEN: i32 = 13;
 const FULL: i32 = 27;
 // Every code that the crate has an error for, but those two.
-const CODES: [i32; 34] = [
-    1, 2, 3, 4, 5, 6, 7, 8, 9, 10, 11, 12, 14, 15, 16, 17, 18, 19, 20, 21, 22, 23, 24, 25, 26, 28, 29, 30, 31, 32, 41, 66, 67, 71,
+const CODES: [i32; 36] = [
+    1, 2, 3, 4, 5, 6, 7, 8, 9, 10, 11, 12, 14, 15, 16, 17, 18, 19, 20, 21, 22, 23, 24, 25, 26, 28, 29, 30, 31, 32, 41, 66, 67,
+    71, 72, 73,
 ];
 const FIRST: [u8; 9_000] = [1; 9_000];
 const CURRENT: [u8; 5_000] = [2; 5_000];
@@ -91,7 +92,7 @@ fn text<T: Debug>(result: Result<T, Error>) -> Result<String, Error> {
 }
 
 // The methods that change nothing if a call fails.
-const METHODS: [(&str, Method); 50] = [
+const METHODS: [(&str, Method); 54] = [
     ("clock", |it| text(it.clock(11))),
     ("tick", |it| text(it.tick(1))),
     ("mkdir", |it| text(it.mkdir("/n"))),
@@ -142,6 +143,10 @@ const METHODS: [(&str, Method); 50] = [
     ("groups", |it| text(it.groups())),
     ("clean", |it| text(it.clean())),
     ("line", |it| text(it.line("versions /d/f"))),
+    ("checkpoint", |it| text(it.checkpoint())),
+    ("directory_across", |it| text(it.directory_across(1))),
+    ("file_across", |it| text(it.file_across(1))),
+    ("version_across", |it| text(it.version_across(1, 3))),
 ];
 
 #[test]
@@ -343,6 +348,40 @@ fn each_code_is_its_error_and_asks_for_a_detail_only_if_it_has_one() {
     assert_eq!(store.tick(1), Err(Error::Unexpected(99)));
     fail_none();
     assert_eq!(store.now(), 10);
+}
+
+#[test]
+fn a_renewal_that_is_refused_leaves_the_store_as_it_was() {
+    for code in CODES {
+        let mut store = scene();
+        let before = (state(&store), store.checkpoint().unwrap());
+        fail(0, code, false);
+        assert_eq!((store.renew().unwrap_err().code(), calls_made()), (code, 1));
+        fail_none();
+        assert_eq!((state(&store), store.checkpoint().unwrap()), before, "code {code}");
+        assert_eq!(store.renew(), Ok(()));
+    }
+}
+
+#[test]
+fn a_checkpoint_that_cannot_be_opened_or_whose_handles_cannot_be_closed_is_an_error() {
+    let store = scene();
+    let session = store.session("/d/f").unwrap();
+    session.write_at(0, b"draft").unwrap();
+    let bytes = store.checkpoint().unwrap();
+    fail_none();
+    // It opens the store, counts its handles, finds the only one open, and closes it.
+    assert_eq!(Store::from_checkpoint(&bytes, false).unwrap().read("/d/f").unwrap()[..6], *b"draft\x02");
+    fail_none();
+    drop(Store::from_checkpoint(&bytes, false).unwrap());
+    assert_eq!(calls_made(), 4);
+    for at in [0, 2, 3] {
+        fail(at, NO_MEMORY, false);
+        assert_eq!(Store::from_checkpoint(&bytes, false).unwrap_err(), Error::NoMemory, "call {at}");
+    }
+    fail(0, 72, false);
+    assert_eq!(Store::from_checkpoint(&bytes, false).unwrap_err(), Error::BadCheckpoint);
+    fail_none();
 }
 
 #[test]
