@@ -48,6 +48,7 @@ pub const ELEPHANT_BAD_LADDER: i32 = 31;
 pub const ELEPHANT_SYNTAX: i32 = 32;
 pub const ELEPHANT_BAD_LIMITS: i32 = 66;
 pub const ELEPHANT_NO_HISTORY: i32 = 67;
+pub const ELEPHANT_NO_RESULT: i32 = 68;
 pub const ELEPHANT_UNTOLD: i32 = 71;
 pub const ELEPHANT_BAD_CHECKPOINT: i32 = 72;
 pub const ELEPHANT_HANDLES_OPEN: i32 = 73;

@@ -40,7 +40,7 @@ const BARE: [(Error, i32, ErrorKind); 36] = [
     (Error::BadLimits, 66, ErrorKind::Other),
     (Error::NoHistory, 67, ErrorKind::Other),
     (Error::Untold, 71, ErrorKind::Other),
-    (Error::BadCheckpoint, 72, ErrorKind::Other),
+    (Error::BadCheckpoint, 72, ErrorKind::InvalidInput),
     (Error::HandlesOpen, 73, ErrorKind::Other),
 ];
 const LIMITS: [(Limit, &str); 8] = [

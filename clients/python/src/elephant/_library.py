@@ -16,6 +16,7 @@ VARIABLE = "ELEPHANT_LIBRARY"
 # Printed by tools/pages/surface --write: the numbers, from include/elephant.h.
 NOW, AT, VERSION = 0, 1, 2
 NO_ENTRY = 5
+NO_RESULT = 68
 # End of the numbers.
 
 
