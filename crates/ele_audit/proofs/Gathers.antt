@@ -2,7 +2,9 @@
 use Rattle.ele_audit.proofs.Basics.{List, [], append_assoc, append-nil, ap, length, drop, refl, sym, subst, ℕ, ◌++◌, ◌∷◌, ◌≡◌, ◌≤◌, ◌<◌, ◌+◌, ◌∙◌, get_or, Some, None, false, true, drop_more, at_drop_all}
 use Rattle.ele_audit.proofs.Clocks.{clocked}
 use Rattle.ele_audit.specs.Clock.{clock_after}
+use Rattle.std.proofs.lemmas.List.Elements.{filter-append}
 use Rattle.std.specs.List.{AllZip}
+use Rattle.std.specs.Prelude.{Bool, filter}
 use Rattle.ele_audit.specs.Open.{opened_at, opens}
 use Rattle.ele_audit.specs.Removals.{removal_in, removals}
 use Rattle.ele_audit.specs.declared.row.Removed.{Removed}
@@ -109,3 +111,62 @@ each_more R all i x rows more row lt is of more_is so = gathers_more R all (drop
 
 pub each_done : {A B : Type 0} (R : A → B → Type 0) (all : List A) (i : ℕ) (rows : List B) → length all ≤ i → Gathers R all (drop i all) rows → AllZip R all rows
 each_done R all i rows le so = gathers_done R all (drop i all) rows (left_none all i le) so
+
+-- ---- elements that pass a test, one by one
+
+pub kept_more : {A B : Type 0} (R : A → B → Type 0) (keep : A → Bool) (all : List A) (xs : List A) (i : ℕ) (x : A) (rows added more : List B) → i < length xs → x ≡ get_or xs i x
+    → AllZip R (filter keep (x ∷ [])) added → more ≡ rows ++ added → Gathers R all (filter keep (drop i xs)) rows → Gathers R all (filter keep (drop (i + 1) xs)) more
+kept_more {A} R keep all xs i x rows added more lt is of more_is so =
+    gathers_more R all (filter keep (drop i xs)) (filter keep (x ∷ [])) (filter keep (drop (i + 1) xs)) rows added more
+    (ap (λ (left : List A). filter keep left) (left_more xs i x lt is) ∙ filter-append keep (x ∷ []) (drop (i + 1) xs)) of more_is so
+
+pub kept_done : {A B : Type 0} (R : A → B → Type 0) (keep : A → Bool) (all : List A) (xs : List A) (i : ℕ) (rows : List B) → length xs ≤ i → Gathers R all (filter keep (drop i xs)) rows → AllZip R all rows
+kept_done {A} R keep all xs i rows le so = gathers_done R all (filter keep (drop i xs)) rows (ap (λ (left : List A). filter keep left) (left_none xs i le)) so
+
+-- and rows that stood before them
+pub record Adds {A B : Type 0} (R : A → B → Type 0) (all left : List A) (first rows : List B) : Type 0 where
+  pub added : List B
+  pub is : rows ≡ first ++ added
+  pub gathers : Gathers R all left added
+
+pub adds_none : {A B : Type 0} (R : A → B → Type 0) (all : List A) (rows : List B) → Adds R all all rows rows
+adds_none R all rows = record { added = []; is = sym (append-nil rows); gathers = gathers_none R all }
+
+pub adds_more : {A B : Type 0} (R : A → B → Type 0) (keep : A → Bool) (all : List A) (xs : List A) (i : ℕ) (x : A) (first rows added more : List B) → i < length xs → x ≡ get_or xs i x
+    → AllZip R (filter keep (x ∷ [])) added → more ≡ rows ++ added → Adds R all (filter keep (drop i xs)) first rows → Adds R all (filter keep (drop (i + 1) xs)) first more
+adds_more R keep all xs i x first rows added more lt is of more_is so = record {
+  added = so.added ++ added;
+  is = more_is ∙ (rw so.is (append_assoc first so.added added));
+  gathers = kept_more R keep all xs i x so.added added (so.added ++ added) lt is of refl so.gathers;
+}
+
+pub adds_done : {A B : Type 0} (R : A → B → Type 0) (keep : A → Bool) (all : List A) (xs : List A) (i : ℕ) (first rows : List B) → length xs ≤ i → Adds R all (filter keep (drop i xs)) first rows
+    → (added : List B) × AllZip R all added × (rows ≡ first ++ added)
+adds_done R keep all xs i first rows le so = (so.added, kept_done R keep all xs i so.added le so.gathers, so.is)
+
+-- ---- the removals that pass a test, on a core
+
+pub keeps_more : {B : Type 0} (R : World × Key → B → Type 0) (keep : World × Key → Bool) (all : List (World × Key)) (w next : World) (entries : List Entry) (i : ℕ) (entry : Entry) (rows added more : List B)
+    → i < length entries → entry ≡ get_or entries i entry → next ≡ (step w entry.event).1 → AllZip R (filter keep (removal_in w entry.reply)) added → more ≡ rows ++ added
+    → Gathers R all (filter keep (removals w (drop i entries))) rows → Gathers R all (filter keep (removals next (drop (i + 1) entries))) more
+keeps_more R keep all w next entries i entry rows added more lt is next_is added_are more_is so =
+    gathers_more R all (filter keep (removals w (drop i entries))) (filter keep (removal_in w entry.reply)) (filter keep (removals next (drop (i + 1) entries))) rows added more
+    (rw next_is (ap (λ (left : List Entry). filter keep (removals w left)) (left_more entries i entry lt is) ∙ filter-append keep (removal_in w entry.reply) (removals ((step w entry.event).1) (drop (i + 1) entries)))) added_are more_is so
+
+pub keeps_done : {B : Type 0} (R : World × Key → B → Type 0) (keep : World × Key → Bool) (all : List (World × Key)) (w : World) (entries : List Entry) (i : ℕ) (rows : List B) → length entries ≤ i
+    → Gathers R all (filter keep (removals w (drop i entries))) rows → AllZip R all rows
+keeps_done R keep all w entries i rows le so = gathers_done R all (filter keep (removals w (drop i entries))) rows (ap (λ (left : List Entry). filter keep (removals w left)) (left_none entries i le)) so
+
+pub keeps_none : {B : Type 0} (R : World × Key → B → Type 0) (keep : World × Key → Bool) (start w : World) (entries : List Entry) (rows : List B) → rows ≡ [] → w ≡ start
+    → Gathers R (filter keep (removals start entries)) (filter keep (removals w entries)) rows
+keeps_none R keep start w entries rows none is = rw (is, none) (gathers_none R (filter keep (removals start entries)))
+
+-- ---- one element that may pass
+
+pub keeps_one : {A B : Type 0} (R : A → B → Type 0) (keep : A → Bool) (x : A) (row : B) (rows more : List B) → keep x ≡ true → R x row → more ≡ rows ++ row ∷ []
+    → (added : List B) × AllZip R (filter keep (x ∷ [])) added × (more ≡ rows ++ added)
+keeps_one R keep x row rows more kept is pushed = (row ∷ [], rw kept (is, tt), pushed)
+
+pub keeps_no : {A B : Type 0} (R : A → B → Type 0) (keep : A → Bool) (x : A) (rows more : List B) → keep x ≡ false → more ≡ rows
+    → (added : List B) × AllZip R (filter keep (x ∷ [])) added × (more ≡ rows ++ added)
+keeps_no R keep x rows more other same = ([], rw other tt, same ∙ sym (append-nil rows))

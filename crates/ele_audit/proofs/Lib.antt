@@ -1,7 +1,13 @@
 mod Basics
+mod Lengths
 mod Paths
 mod Clocks
 mod Gathers
+mod Lasts
 mod Lines
 mod Numbered
+mod Sees
+mod Tells
+mod StoryLines
 mod Texts
+mod Walks

@@ -1,13 +1,16 @@
--- Histories without removals or open handles, and the removal of one version.
+-- Histories without removals, of any file or of one, or without open handles; and the removal of one version.
 use Rattle.ele_audit.proofs.Basics.{List, [], ap, refl, ℕ, ◌++◌, ◌∷◌, ◌≡◌, ◌∙◌, Option, Some, None, Bool, true, false, find, option_and_then, if◌then◌else◌}
-use Rattle.std.specs.Prelude.{◌||◌, ◌&&◌, ◌==◌, Result, Ok, Err}
+use Rattle.std.proofs.lemmas.List.Elements.{filter-append}
+use Rattle.std.specs.Prelude.{◌||◌, ◌&&◌, ◌==◌, Result, Ok, Err, filter}
 use Rattle.std.specs.List.{AllZip, list_any}
 use Rattle.std.specs.Result.{result_ok}
 use Rattle.ele_audit.specs.Open.{AreOpen}
 use Rattle.ele_audit.specs.Removals.{AreRemoved, IsExplained, IsRemovedVersion, IsRowIf, is_removal, is_removal_of, removal_at, removal_in, removals, removes_number}
-use Rattle.ele_audit.specs.Rows.{is_row_of}
+use Rattle.ele_audit.specs.Rows.{is_row_of, removes_from}
+use Rattle.ele_audit.specs.Story.{WasRemoved, is_removal_from}
 use Rattle.ele_audit.specs.declared.row.OpenHandle.{OpenHandle}
 use Rattle.ele_audit.specs.declared.row.Removed.{Removed}
+use Rattle.ele_audit.specs.declared.story_row.VersionStory.{VersionStory}
 use Rattle.ele_due.specs.declared.key.Key.{Key}
 use Rattle.ele_history.specs.Past.{Past, world_of}
 use Rattle.ele_model.specs.declared.entry.Entry.{Entry}
@@ -45,6 +48,22 @@ no_rows past rows none is = rw (is, none_removed past.base past.entries none) tt
 
 pub no_handles : (past : Past) (handles : List OpenHandle) → (world_of past).handles ≡ [] → handles ≡ [] → AreOpen past handles
 no_handles past handles none is = rw (is, none) tt
+
+-- ---- no removals from a file
+
+nothing_from : (w : World) (file : ℕ) (answer : Reply) → removes_from file answer ≡ false → filter (is_removal_from file) (removal_in w answer) ≡ []
+nothing_from w file (reply.Removed key) none = rw none refl
+nothing_from w file answer none = refl
+
+none_from : (w : World) (file : ℕ) (entries : List Entry) → list_any (λ entry. removes_from file entry.reply) entries ≡ false → filter (is_removal_from file) (removals w entries) ≡ []
+none_from w file [] none = refl
+none_from w file (entry ∷ entries) none =
+    filter-append (is_removal_from file) (removal_in w entry.reply) (removals ((step w entry.event).1) entries)
+    ∙ rw (nothing_from w file entry.reply (left_fails (removes_from file entry.reply) _ none)) (none_from ((step w entry.event).1) file entries (right_fails (removes_from file entry.reply) _ none))
+
+pub no_rows_from : (w : World) (file : ℕ) (entries : List Entry) (rows : List VersionStory) → list_any (λ entry. removes_from file entry.reply) entries ≡ false → rows ≡ []
+    → AllZip (WasRemoved file) (filter (is_removal_from file) (removals w entries)) rows
+no_rows_from w file entries rows none is = rw (is, none_from w file entries none) tt
 
 -- ---- no removal of a number
 

@@ -4,3 +4,6 @@ pub mod LivePath
 pub mod Open
 pub mod Removals
 pub mod Rows
+pub mod Seen
+pub mod Story
+pub mod StoryText

@@ -5,7 +5,7 @@ ghost use Rattle.std.specs.List.{AllZip, list_any};
 ghost use Rattle.ele_model.specs.World.{World};
 ghost use Rattle.ele_audit.specs.Removals.{AreRemoved, HasRemovals, IsExplained, is_removal, removal_in};
 
-use crate::path::path_of;
+use crate::path::{Above, path_of};
 use crate::row::Removed;
 use ele_history::History;
 use ele_model::{Entry, Explain, FromFlat, Key, NoMemory, Reply, Target};
@@ -90,7 +90,7 @@ fn explained<C: Explain>(alloc: Global, core: &C, key: Key) -> Result<Removed, N
     ensures { IfOk result (IsExplained (C.world core.now, key)) }
 {
     let names = core.name_rows()?;
-    let path = path_of(alloc, &names, Target::File(key.file))?;
+    let path = path_of(alloc, Above::Live, &names, Target::File(key.file))?;
     Ok(Removed {
         at: core.now(),
         key,

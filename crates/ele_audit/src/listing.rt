@@ -4,7 +4,7 @@ ghost use Rattle.ele_audit.specs.Open.{AreOpen, IsOpen, file_of, opened_at, open
 ghost use Rattle.ele_history.specs.Past.{world_of};
 
 use crate::gone::clock_after;
-use crate::path::path_of;
+use crate::path::{Above, path_of};
 use crate::row::OpenHandle;
 use ele_history::History;
 use ele_model::{Explain, HandleRow, NameRow, NoMemory, Reads, Reply, Step, Target};
@@ -54,7 +54,7 @@ fn open_handle<C: Explain>(
     requires { names.now ≡ (world_of history.now).names }
     ensures { IfOk result (IsOpen history.now row.now) }
 {
-    let path = path_of(alloc, names, Target::File(file_of(&row.reads)))?;
+    let path = path_of(alloc, Above::Live, names, Target::File(file_of(&row.reads)))?;
     Ok(OpenHandle {
         row: *row,
         since: since_of(history, row),

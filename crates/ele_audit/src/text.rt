@@ -131,8 +131,8 @@ fn handle_number(row: &HandleRow) -> u64
     row.number.0
 }
 
-// Prints since when a handle has been open, the path of its file, and a line feed.
-fn put_opening<W: Write>(
+/// Prints a space and a moment, a space and a path, with `-` for none, and a line feed.
+pub(crate) fn put_opening<W: Write>(
     since: &Option<Moment>,
     path: &Option<Vec<Name>>,
     printer: &mut Printer<'_, W>,
@@ -165,8 +165,8 @@ fn put_read<W: Write>(reads: &Reads, printer: &mut Printer<'_, W>)
     }
 }
 
-// Prints a space and the seconds of a moment, or `-`.
-fn put_since<W: Write>(since: &Option<Moment>, printer: &mut Printer<'_, W>)
+/// Prints a space and the seconds of a moment, or `-`.
+pub(crate) fn put_since<W: Write>(since: &Option<Moment>, printer: &mut Printer<'_, W>)
     ensures { Prints W.contents printer.old printer.new (32 ∷ end_word since.now) }
 {
     match since {

@@ -93,8 +93,8 @@ fn row_of(rows: Vec<Removed>, file: FileId, number: VersionNo) -> Option<Removed
         .find(|row| row.key.file == file && row.key.number == number)
 }
 
-// The file that the names lead to.
-fn file_at(rows: &[NameRow], path: &[Name]) -> Option<FileId>
+/// Returns the file that the names lead to. None if they lead to none.
+pub(crate) fn file_at(rows: &[NameRow], path: &[Name]) -> Option<FileId>
     ensures { result ≡ result_ok (file_now rows.now path.now) }
 {
     match walk(rows, DirId(0), path)? {

@@ -4,4 +4,4 @@ use Rattle.ele_audit.proofs.path.climb.Given as goal
 
 -- so many names lead up to here
 abbrev pub invariant-loop : goal.invariant-loop
-invariant-loop l = Climbs l.rows l.fn.target l.at (length l.rows - l.counter) l.names.items
+invariant-loop l = Climbs l.above l.rows l.fn.target l.at (length l.rows - l.counter) l.names.items
