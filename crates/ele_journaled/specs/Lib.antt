@@ -1,0 +1,4 @@
+pub mod Store
+pub mod Keeps
+pub mod Opened
+pub mod Example
