@@ -6,6 +6,8 @@ mod Fractions
 mod Locals
 -- the forms of a time
 mod Times
+-- clocks
+mod Clocks
 -- lengths of time, and their units
 pub mod Lengths
 -- words around a slash

@@ -1,5 +1,6 @@
 pub mod Zone
 pub mod Time
+pub mod Clock
 pub mod OneTime
 pub mod ReadParts
 pub mod Length

@@ -3,6 +3,7 @@
 //! as its number of seconds and a policy as plain data.
 #![tactic(auto)]
 
+mod clock;
 mod cut;
 mod fraction;
 mod length;
@@ -13,6 +14,8 @@ mod safe;
 mod time;
 mod zone;
 
+pub use clock::{read_clock, read_offset};
 pub use length::read_length;
 pub use policy::read_policy;
 pub use time::{one_time, read_time};
+pub use zone::Offset;

@@ -59,9 +59,9 @@ fn is_mark(byte: u8) -> bool
     matches!(byte, b'T' | b't' | b' ')
 }
 
-// The offset after a time of day.
+/// The offset after a time of day.
 #[tactic(auto, unfolding(crate::specs::ReadParts::rest_of, ele_moment::specs::ReadFields::and_then))]
-fn read_rest(rest: &[u8]) -> Option<Offset>
+pub(crate) fn read_rest(rest: &[u8]) -> Option<Offset>
     ensures { result ≡ rest_of rest.now }
 {
     let zone = after_fraction(rest)?;
