@@ -40,10 +40,13 @@ abbrev pub version_columns : Details → Forecast → List ℕ
 version_columns details told =
     decimal told.number ++ (spaced (detail_words details told.number) ++ ((32 ∷ stamp_of told.closed) ++ (32 ∷ stamp_or told.ended)))
 
--- the line of a version: these, and the moment from which it may be forgotten under each policy
+-- these, and the moment from which it may be forgotten under each policy
+abbrev pub compared_columns : Details → List Plan → Forecast → List ℕ
+compared_columns details plans told = version_columns details told ++ flat_map (due_column told.number) plans
+
+-- the line of a version
 abbrev pub compared_line : Details → List Plan → Forecast → List ℕ
-compared_line details plans told =
-    version_columns details told ++ (flat_map (due_column told.number) plans ++ codes "\n")
+compared_line details plans told = compared_columns details plans told ++ codes "\n"
 
 -- the line of a moment and a policy
 abbrev pub policy_staying : Details → Policy → Staying → List ℕ

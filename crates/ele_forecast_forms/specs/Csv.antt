@@ -29,10 +29,13 @@ moment_field (Some moment) = 44 ∷ stamp_of moment
 abbrev pub policy_headings : Policy → List ℕ
 policy_headings policy = codes ",\"due " ++ (policy_word policy ++ (codes "\",\"why " ++ (policy_word policy ++ codes "\"")))
 
-abbrev pub heading_row : Details → List Plan → List ℕ
-heading_row details plans =
+abbrev pub heading_fields : Details → List Plan → List ℕ
+heading_fields details plans =
     codes "version" ++ (part_if details.columns.labels (codes ",label") ++ (part_if details.columns.sizes (codes ",bytes")
-    ++ (codes ",closed,ended" ++ (flat_map (λ plan. policy_headings plan.policy) plans ++ codes "\n"))))
+    ++ (codes ",closed,ended" ++ flat_map (λ plan. policy_headings plan.policy) plans)))
+
+abbrev pub heading_row : Details → List Plan → List ℕ
+heading_row details plans = heading_fields details plans ++ codes "\n"
 
 -- what a policy makes of a version: when it becomes due, and why
 abbrev pub fate_fields : Policy → Option Forecast → List ℕ
@@ -49,9 +52,13 @@ version_fields details number =
     decimal number ++ (part_if details.columns.labels (44 ∷ quoted (name_of details.labels.items number))
     ++ part_if details.columns.sizes (44 ∷ decimal (size_of details.sizes.items number)))
 
+-- these, when it closed and ended, and what each plan says of it
+abbrev pub row_fields : Details → List Plan → Forecast → List ℕ
+row_fields details plans told =
+    version_fields details told.number ++ (moment_field (Some told.closed) ++ (moment_field told.ended ++ fates_fields plans told.number))
+
 abbrev pub version_row : Details → List Plan → Forecast → List ℕ
-version_row details plans told =
-    version_fields details told.number ++ (moment_field (Some told.closed) ++ (moment_field told.ended ++ (fates_fields plans told.number ++ codes "\n")))
+version_row details plans told = row_fields details plans told ++ codes "\n"
 
 abbrev pub csv_text : Details → List Plan → List ℕ
 csv_text details plans = heading_row details plans ++ flat_map (version_row details plans) (versions_of plans)

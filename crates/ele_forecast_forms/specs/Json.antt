@@ -86,8 +86,11 @@ abbrev pub version_text : Details → List Plan → Forecast → List ℕ
 version_text details plans told =
     version_fields details told.number ++ (life_fields told ++ (codes ",\"policies\":[" ++ (fates_text plans told.number ++ codes "]}")))
 
--- the plans, and the versions
-abbrev pub json_text : Details → List Plan → List ℕ
-json_text details plans =
-    codes "{\"policies\":[" ++ (join_with_byte 44 (map (plan_text details) plans) ++ (codes "\n],\n\"versions\":["
+-- the plans and the versions, and the end of the object
+abbrev pub members_text : Details → List Plan → List ℕ
+members_text details plans =
+    codes "\"policies\":[" ++ (join_with_byte 44 (map (plan_text details) plans) ++ (codes "\n],\n\"versions\":["
     ++ (join_with_byte 44 (map (version_text details plans) (versions_of plans)) ++ codes "\n]}\n")))
+
+abbrev pub json_text : Details → List Plan → List ℕ
+json_text details plans = codes "{" ++ members_text details plans

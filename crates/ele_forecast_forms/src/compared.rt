@@ -2,7 +2,7 @@
 ghost use Rattle.std.specs.Prelude.{◌≡◌, ◌∷◌};
 ghost use Rattle.std.specs.List.{flat_map};
 ghost use Rattle.ele_output.specs.Prints.{Prints};
-ghost use Rattle.ele_forecast_forms.specs.Compared.{compared_line, compared_text, due_word, policy_column};
+ghost use Rattle.ele_forecast_forms.specs.Compared.{compared_columns, compared_line, compared_text, due_word, policy_column};
 ghost use Rattle.ele_forecast_text.specs.Stamp.{stamp_or};
 
 use crate::stayings::put_stayings;
@@ -37,8 +37,8 @@ pub fn put_compared<W: Write>(
     put_stayings(details, plans, moments, printer);
 }
 
-// Puts a space and the word of each policy.
-pub(crate) fn put_policies<W: Write>(plans: &[Plan], printer: &mut Printer<'_, W>)
+/// Puts a space and the word of each policy.
+pub fn put_policies<W: Write>(plans: &[Plan], printer: &mut Printer<'_, W>)
     ensures { Prints W.contents printer.old printer.new (flat_map policy_column plans.now) }
 {
     for plan in plans {
@@ -47,8 +47,7 @@ pub(crate) fn put_policies<W: Write>(plans: &[Plan], printer: &mut Printer<'_, W
     }
 }
 
-// Puts the line of a version: its number, its details, when it closed and ended, and the moment from which it may
-// be forgotten under each policy.
+// Puts the line of a version.
 fn put_version<W: Write>(
     details: &Details,
     plans: &[Plan],
@@ -58,6 +57,21 @@ fn put_version<W: Write>(
     ensures { Prints W.contents printer.old printer.new
         (compared_line details.now plans.now forecast.now) }
 {
+    put_columns(details, plans, forecast, printer);
+    printer.put(b"\n");
+}
+
+/// Puts the columns of a version: its number, its details, when it closed and ended, and the moment from which it may be
+/// forgotten under each policy.
+pub fn put_columns<W: Write>(
+    details: &Details,
+    plans: &[Plan],
+    forecast: &Forecast,
+    printer: &mut Printer<'_, W>,
+)
+    ensures { Prints W.contents printer.old printer.new
+        (compared_columns details.now plans.now forecast.now) }
+{
     let number = forecast.number;
     put_number(number.0, printer);
     put_details(details, number, printer);
@@ -66,7 +80,6 @@ fn put_version<W: Write>(
     for plan in plans {
         put_moment(due(number, plan.forecasts.as_slice()), printer);
     }
-    printer.put(b"\n");
 }
 
 // Puts a space and a moment, or `-` for none.

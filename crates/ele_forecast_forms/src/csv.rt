@@ -2,7 +2,7 @@
 ghost use Rattle.std.specs.Prelude.{◌∷◌, Some};
 ghost use Rattle.ele_output.specs.Prints.{Prints};
 ghost use Rattle.ele_forecast_text.specs.Labels.{name_of};
-ghost use Rattle.ele_forecast_forms.specs.Csv.{csv_text, doubled, fate_fields, heading_row, moment_field, quoted, version_row};
+ghost use Rattle.ele_forecast_forms.specs.Csv.{csv_text, doubled, fate_fields, heading_fields, heading_row, moment_field, quoted, row_fields, version_row};
 ghost use Rattle.ele_forecast_forms.specs.Parts.{forecast_of, part_if};
 
 use crate::parts::{put_part, put_size};
@@ -26,9 +26,17 @@ pub fn put_csv<W: Write>(details: &Details, plans: &[Plan], printer: &mut Printe
     }
 }
 
-// Puts the heading, with two columns for each policy.
+// Puts the heading.
 fn put_heading<W: Write>(details: &Details, plans: &[Plan], printer: &mut Printer<'_, W>)
     ensures { Prints W.contents printer.old printer.new (heading_row details.now plans.now) }
+{
+    put_heading_fields(details, plans, printer);
+    printer.put(b"\n");
+}
+
+/// Puts the fields of the heading, with two for each policy.
+pub fn put_heading_fields<W: Write>(details: &Details, plans: &[Plan], printer: &mut Printer<'_, W>)
+    ensures { Prints W.contents printer.old printer.new (heading_fields details.now plans.now) }
 {
     printer.put(b"version");
     put_part(details.columns.labels, b",label", printer);
@@ -41,11 +49,9 @@ fn put_heading<W: Write>(details: &Details, plans: &[Plan], printer: &mut Printe
         put_policy(&plan.policy, printer);
         printer.put(b"\"");
     }
-    printer.put(b"\n");
 }
 
-// Puts the row of a version: its number, its label and its size, when it closed and ended, and what each plan
-// says of it.
+// Puts the row of a version.
 fn put_row<W: Write>(
     details: &Details,
     plans: &[Plan],
@@ -54,6 +60,21 @@ fn put_row<W: Write>(
 )
     ensures { Prints W.contents printer.old printer.new
         (version_row details.now plans.now version.now) }
+{
+    put_fields(details, plans, version, printer);
+    printer.put(b"\n");
+}
+
+/// Puts the fields of a version: its number, its label and its size, when it closed and ended, and what each plan says of
+/// it.
+pub fn put_fields<W: Write>(
+    details: &Details,
+    plans: &[Plan],
+    version: &Forecast,
+    printer: &mut Printer<'_, W>,
+)
+    ensures { Prints W.contents printer.old printer.new
+        (row_fields details.now plans.now version.now) }
 {
     let number = version.number;
     put_number(number.0, printer);
@@ -64,7 +85,6 @@ fn put_row<W: Write>(
     for plan in plans {
         put_fate(plan, number, printer);
     }
-    printer.put(b"\n");
 }
 
 // Puts the label of a version, if versions have labels.

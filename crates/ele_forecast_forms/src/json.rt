@@ -2,7 +2,7 @@
 ghost use Rattle.std.specs.Prelude.{Some, decimal, map};
 ghost use Rattle.std.specs.List.{join_with_byte};
 ghost use Rattle.ele_output.specs.Prints.{Prints};
-ghost use Rattle.ele_forecast_forms.specs.Json.{end_text, fates_text, json_text, label_field, plan_text, policy_field, staying_text, total_field, version_text};
+ghost use Rattle.ele_forecast_forms.specs.Json.{end_text, fates_text, json_text, label_field, members_text, plan_text, policy_field, staying_text, total_field, version_text};
 ghost use Rattle.ele_forecast_forms.specs.Parts.{forecast_of};
 
 use crate::json_parts::{put_moment, put_moment_or_null, put_string};
@@ -21,7 +21,15 @@ use std::io::Write;
 pub fn put_json<W: Write>(details: &Details, plans: &[Plan], printer: &mut Printer<'_, W>)
     ensures { Prints W.contents printer.old printer.new (json_text details.now plans.now) }
 {
-    printer.put(b"{\"policies\":[");
+    printer.put(b"{");
+    put_json_members(details, plans, printer);
+}
+
+/// Puts the members of that object, and its end.
+pub fn put_json_members<W: Write>(details: &Details, plans: &[Plan], printer: &mut Printer<'_, W>)
+    ensures { Prints W.contents printer.old printer.new (members_text details.now plans.now) }
+{
+    printer.put(b"\"policies\":[");
     put_plans(details, plans, printer);
     printer.put(b"\n],\n\"versions\":[");
     put_versions(details, plans, versions_of(plans), printer);
@@ -78,8 +86,8 @@ fn put_stayings<W: Write>(details: &Details, stayings: &[Staying], printer: &mut
     }
 }
 
-// Puts the versions that stay at a moment.
-fn put_staying<W: Write>(details: &Details, staying: &Staying, printer: &mut Printer<'_, W>)
+/// Puts the versions that stay at a moment.
+pub fn put_staying<W: Write>(details: &Details, staying: &Staying, printer: &mut Printer<'_, W>)
     ensures { Prints W.contents printer.old printer.new (staying_text details.now staying.now) }
 {
     let numbers = staying.numbers.as_slice();

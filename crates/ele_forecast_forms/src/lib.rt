@@ -11,8 +11,9 @@ mod over_time;
 mod parts;
 mod stayings;
 
-pub use compared::put_compared;
+pub use compared::{put_columns, put_compared, put_policies};
 pub use counts::{Counts, counts_at_moments, counts_every, is_too_long};
-pub use csv::put_csv;
-pub use json::put_json;
+pub use csv::{put_csv, put_fields, put_heading_fields};
+pub use json::{put_json, put_json_members, put_staying};
 pub use over_time::put_over_time;
+pub use stayings::put_stayings;

@@ -11,7 +11,7 @@ use ele_policy::Policy;
 use std::io::Write;
 
 /// Puts the lines of so many moments, one for each policy.
-pub(crate) fn put_stayings<W: Write>(
+pub fn put_stayings<W: Write>(
     details: &Details,
     plans: &[Plan],
     moments: usize,

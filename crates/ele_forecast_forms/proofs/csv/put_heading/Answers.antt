@@ -1,20 +1,5 @@
-use Rattle.std.proofs.Common.{arith}
-use Rattle.std.specs.Prelude.{codes}
-use Rattle.ele_forecast_text.specs.declared.plan.Plan.{Plan}
-use Rattle.ele_forecast_forms.specs.Csv.{policy_headings}
-use Rattle.ele_output.proofs.Known.{put_last, puts_then}
-use Rattle.ele_forecast_text.proofs.Lines.{list_more_then, list_past, put_next, put_start}
+use Rattle.ele_output.proofs.Known.{puts_then}
 use Rattle.ele_forecast_forms.proofs.csv.put_heading.Goals as goal
 
-pub loop-plan-init : goal.loop-plan-init
-loop-plan-init g c =
-    put_next (put_next (put_next (put_start c.put.ensures) c.put_part.ensures) c.put_part-2.ensures) c.put-2.ensures
-
-pub loop-plan-preserved : goal.loop-plan-preserved
-loop-plan-preserved g c =
-    let headings = puts_then c.put-in-loop-plan.ensures (puts_then c.put_policy.ensures (puts_then c.put-in-loop-plan-2.ensures (puts_then c.put_policy-in-loop-plan.ensures c.put-in-loop-plan-3.ensures))) in
-    list_more_then (λ (plan : Plan). policy_headings plan.policy) c.args.plans.now c.loop-plan.plan-index c.plan-item.result (codes "\n") (omega arith) c.plan-item.is c.loop-plan.invariant headings
-
 pub returns : goal.returns
-returns g c =
-    put_last (list_past (λ (plan : Plan). policy_headings plan.policy) c.args.plans.now c.loop-plan.plan-index (codes "\n") c.loop-plan-test.false c.loop-plan.invariant) c.put-3.ensures
+returns g c = puts_then c.put_heading_fields.ensures c.put.ensures
