@@ -1,0 +1,5 @@
+pub mod Judged
+pub mod ReasonText
+pub mod RuledTable
+pub mod RuledCsv
+pub mod RuledJson
