@@ -1,0 +1,5 @@
+mod Basics
+-- a chain that goes on
+pub mod Grows
+mod Hashes
+mod Meets

@@ -1,0 +1,3 @@
+pub mod Chain
+pub mod LongerChain
+pub mod OneChain
