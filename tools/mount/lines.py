@@ -10,6 +10,7 @@ import random
 import re
 import subprocess
 import sys
+import time
 from collections.abc import Mapping
 from pathlib import Path
 
@@ -34,6 +35,8 @@ OTHERS = [
     "landmarks:60", "landmarks:0/1", "x", "", "landmarks:1/1,2/1,3/1,4/1,5/1,6/1,7/1,8/1,9/1",
 ]
 MOST_WORDS = 4
+# What is changed in a folder with a longer pause, in seconds, is undone by itself.
+APART = 3.1
 
 
 def dated(text: str) -> str:
@@ -61,6 +64,7 @@ def lines(room: str, asked: argparse.Namespace) -> Counts:
         answer = mounted.ask("undo", "d/my plan", f"@{before - 1}")
         seen.expect("an undo to it", (answer[:3], "this folder begins at" in answer), ("no:", True))
         _changes(seen, mounted, second)
+        _folder(seen, mounted, top / "w")
         seen.expect("no history", "mount the folder with --history" in mounted.ask("gone"), True)
     return seen.counts()
 
@@ -102,6 +106,22 @@ def _undo(seen: Faults, mounted: Mounted, place: Path) -> None:
     mounted.stop()
     mounted.start()
     seen.expect("an undo after another mount", (mounted.ask("undo", "d/my plan")[:12], place.read_text()), ("ok version 1", "three"))
+
+
+def _folder(seen: Faults, mounted: Mounted, folder: Path) -> None:
+    """Undo and redo of a folder in which a file was saved and then renamed."""
+    folder.mkdir()
+    for text in ("one", "two"):
+        (folder / "f").write_text(text)
+        time.sleep(APART)
+    (folder / "f").rename(folder / "g")
+    next_second()
+    found = []
+    for word in ("undo", "undo", "redo", "redo"):
+        answer = mounted.ask(word, "w")
+        found.append((answer.partition(" as it was at ")[0], [(it.name, it.read_text()) for it in folder.iterdir()]))
+    seen.expect("a folder", found, [("ok w is", [it]) for it in (("f", "two"), ("f", "one"), ("f", "two"), ("g", "two"))])
+    seen.expect("its end", mounted.ask("redo", "w"), "no: w is as it was changed last: there is nothing to redo\n")
 
 
 def _changes(seen: Faults, mounted: Mounted, second: int) -> None:

@@ -195,7 +195,7 @@ class Undoing(Case):
         self.assertEqual([it for _, it in self.walk("undo")], [b"one"])
         self.assertRegex(self.ask("undo /f"), "^no: f held nothing else before: redo goes forward again")
         self.assertEqual(len(self.it.versions(b"f")), 4)
-        self.assertRegex(self.ask("redo /g"), "^no: redo is for a file, and g is none")
+        self.assertRegex(self.ask("redo /g"), "^no: redo is for a file or a folder, and there is no g now")
         self.assertIn("redo takes a file", self.ask("redo /f 10:00"))
 
     def test_saves_that_changed_nothing_are_passed_over_in_both_directions(self) -> None:
@@ -252,6 +252,28 @@ class Undoing(Case):
         for line in ("undo /f #4", "redo /f"):
             self.assertRegex(self.ask(line), "^elephant-mount: a program has the file open")
         self.it.contents.closed(node, True)
+
+    def test_undo_and_redo_of_a_folder_and_of_the_top(self) -> None:
+        for path, name in (("/", b"f"), ("/d", b"g")):
+            folder = self.it.naming.mkdir(self.it.top, b"d", FOLDER, 0, 0) if path == "/d" else self.it.top
+            for text in (b"one", b"two", b"three"):
+                self.it.save(name, text, folder)
+                self.clocks.pass_by(10)
+            self.it.naming.rename(folder, name, folder, b"new", 0)
+            self.clocks.pass_by(10)
+            found = []
+            for word in ("undo", "undo --dry-run", "undo", "undo", "redo", "redo", "redo"):
+                answer = self.ask(f"{word} {path}")
+                self.clocks.pass_by(10)
+                self.assertEqual(answer[:3], "ok ", answer)
+                found += [(it, self.it.contents.whole(self.it.file(it, folder))) for it in folder.children if it in (name, b"new")]
+            self.assertEqual(found, [
+                (name, b"three"), (name, b"three"), (name, b"two"), (name, b"one"), (name, b"two"), (name, b"three"), (b"new", b"three"),
+            ])
+            self.assertRegex(self.ask(f"redo {path}"), "^no: .* is as it was changed last: there is nothing to redo")
+            self.it.naming.unlink(folder, b"new")
+            folder.left.clear()
+            self.clocks.pass_by(10)
 
     def test_a_moment_before_the_folder_begins(self) -> None:
         self.save(b"f", b"one")

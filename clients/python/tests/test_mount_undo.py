@@ -13,6 +13,7 @@ from unittest import mock
 from elephant import Limits
 from elephant.keeping import Journal
 from elephant.mount.naming import EXCHANGE
+from elephant.mount.shorter import shorten
 from elephant.mount.tree import Directory, File
 from elephant.mount.undo import Undo
 from elephant.mount.whereabouts import Nothing
@@ -423,7 +424,7 @@ class Folders(Undoing):
         self.undo(b"/d")
         self.expect_first()
         self.later()
-        self.undo(b"/d")
+        self.redo(b"/d")
         self.assertEqual(set(self.files().values()), {b"oops"})
 
     def test_a_copy_that_a_program_renames_belongs_to_its_change(self) -> None:
@@ -557,6 +558,172 @@ class Folders(Undoing):
         with mock.patch.object(Journal, "append", autospec=True) as append:
             self.undo(b"/m", first)
         self.assertLess(append.call_count, 4)
+
+
+class Turning(Undoing):
+    """Undos and redos of a folder, one after the other."""
+
+    def setUp(self) -> None:
+        super().setUp()
+        self.mount()
+        self.fill({b"/d/a": b"one", b"/d/e/b": b"one"})
+        self.later()
+        self.states = [self.files()]
+
+    def change(self, contents: dict[bytes, bytes]) -> None:
+        self.fill(contents)
+        self.end_of_change()
+
+    def end_of_change(self) -> None:
+        self.later()
+        self.states.append(self.files())
+
+    def three_changes(self) -> None:
+        self.change({b"/d/a": b"two", b"/d/e/b": b"two"})
+        self.rename(b"/d/e/b", b"/d/c")
+        self.end_of_change()
+        self.change({b"/d/a": b"three"})
+
+    def step(self, word: str) -> str:
+        return self.undo(b"/d") if word == "undo" else self.redo(b"/d")
+
+    def turn(self, words: str, *places: int) -> None:
+        """Undoes and redoes, and looks after each which of the states the folder is in."""
+        for word, place in zip(words.split(), places):
+            self.assertRegex(self.step(word), "^ok d is as it was at ")
+            self.assertEqual(self.files(), self.states[place], (words, place))
+            self.later()
+
+    def refused(self, word: str, words: str) -> None:
+        before = self.it.all()
+        with self.assertRaisesRegex(Nothing, words):
+            self.step(word)
+        self.assertEqual(self.it.all(), before)
+
+    def test_undo_goes_further_back_and_redo_forward(self) -> None:
+        self.three_changes()
+        self.refused("redo", "d is as it was changed last: there is nothing to redo")
+        self.turn("undo undo undo", 2, 1, 0)
+        self.refused("undo", "this folder begins at")
+        self.turn("redo redo undo redo redo", 1, 2, 1, 2, 3)
+        self.refused("redo", "d is as it was changed last")
+        self.turn("undo", 2)
+
+    def test_a_save_ends_it_and_what_was_undone_is_passed_over(self) -> None:
+        self.three_changes()
+        self.turn("undo undo", 2, 1)
+        self.change({b"/d/a": b"other"})
+        self.refused("redo", "d is as it was changed last")
+        self.turn("undo undo redo redo", 1, 0, 1, 4)
+        self.refused("redo", "d is as it was changed last")
+
+    def test_a_save_soon_after_an_undo_is_a_change_of_its_own(self) -> None:
+        self.three_changes()
+        self.change({b"/d/a": b"four", b"/d/c": b"four"})
+        self.undo(b"/d")
+        self.later(1)
+        self.change({b"/d/a": b"other"})
+        self.turn("undo undo redo redo", 3, 2, 3, 5)
+
+    def test_a_name_that_an_undo_brought_back_and_that_is_deleted_soon_comes_back(self) -> None:
+        self.three_changes()
+        self.turn("undo", 2)
+        self.undo(b"/d")
+        self.later(1)
+        self.unlink(b"/d/e/b")
+        self.later()
+        self.turn("undo undo", 1, 0)
+
+    def test_what_changes_elsewhere_does_not_end_it(self) -> None:
+        self.three_changes()
+        self.turn("undo", 2)
+        self.fill({b"/f": b"one"})
+        self.states = [{**it, b"/f": b"one"} for it in self.states]
+        self.turn("undo redo redo", 1, 2, 3)
+
+    def test_an_undo_to_a_moment_ends_it(self) -> None:
+        self.three_changes()
+        self.turn("undo", 2)
+        self.undo(b"/d", BEGIN)
+        self.later()
+        self.refused("redo", "d is as it was changed last")
+        self.turn("undo undo", 2, 1)
+
+    def test_a_folder_in_it_has_turns_of_its_own(self) -> None:
+        self.change({b"/d/e/b": b"two"})
+        self.change({b"/d/a": b"two"})
+        self.assertRegex(self.undo(b"/d/e"), "^ok d/e is as it was at ")
+        self.end_of_change()
+        self.turn("undo undo undo redo redo redo", 2, 1, 0, 1, 2, 3)
+        self.assertEqual(self.states[3], {b"/d/a": b"two", b"/d/e/b": b"one"})
+
+    def test_it_goes_on_after_another_mount_and_in_a_journal_that_was_made_anew(self) -> None:
+        self.three_changes()
+        self.turn("undo undo", 2, 1)
+        self.mount()
+        self.turn("undo redo", 0, 1)
+        self.it.close()
+        new = self.journal.with_name("new")
+        shorten(str(self.journal), self.journal.stat().st_size, str(new))
+        self.journal = new
+        self.mount()
+        self.turn("redo redo undo undo", 2, 3, 2, 1)
+        self.rename(b"/d", b"/z")
+        self.later()
+        self.redo(b"/z")
+        self.assertEqual(self.files(), {b"/z" + path[2:]: content for path, content in self.states[2].items()})
+
+    def test_a_redo_deletes_nothing(self) -> None:
+        self.unlink(b"/d/a")
+        self.end_of_change()
+        self.turn("undo", 0)
+        self.assertRegex(self.redo(b"/d"), "^ok d is as it was at .*: 1 files\n- newer, and stays: d/a\n$")
+        self.assertEqual(self.files(), self.states[0])
+
+    def test_an_undo_in_the_second_of_the_change(self) -> None:
+        """The moment before that second is the newest state that a redo finds."""
+        self.change({b"/d/a": b"two"})
+        self.fill({b"/d/a": b"three"})
+        self.turn("undo", 1)
+        self.refused("redo", "there is nothing to redo")
+        self.turn("undo redo", 0, 1)
+        self.refused("redo", "there is nothing to redo")
+
+    def test_a_dry_run_is_no_turn(self) -> None:
+        self.three_changes()
+        told = self.undo(b"/d", is_dry=True)
+        self.assertEqual((self.undo(b"/d", is_dry=True), self.files()), (told, self.states[3]))
+        self.turn("undo", 2)
+
+    def test_as_an_editor_undoes_and_redoes(self) -> None:
+        """Random changes, undos and redos, beside a list of states in which they move a place."""
+        for seed in range(40):
+            with self.subTest(seed=seed):
+                self.unmount()
+                self.setUp()
+                self.move(random.Random(seed))
+
+    def move(self, drawn: random.Random) -> None:
+        place = 0
+        for step in range(drawn.randrange(4, 14)):
+            word = drawn.choice(("undo", "undo", "redo", "change", "again"))
+            if word == "again":
+                self.mount()
+                self.later(drawn.choice((0, 1, 2)))
+            elif word == "change":
+                del self.states[place + 1:]
+                paths = sorted(self.states[place])
+                if drawn.random() < 0.3:
+                    self.rename(paths[0], b"/d/%d" % step)
+                else:
+                    self.fill({path: b"%d" % step for path in drawn.sample(paths, drawn.randrange(1, 3))})
+                self.end_of_change()
+                place += 1
+            elif 0 <= place + (1 if word == "redo" else -1) < len(self.states):
+                place += 1 if word == "redo" else -1
+                self.turn(word, place)
+            else:
+                self.refused(word, "begins at" if word == "undo" else "nothing to redo")
 
 
 class Limited(Undoing):

@@ -63,9 +63,9 @@ class Chronicle:
         for ends in self._ends.get(parent, {}).values():
             yield from ends
 
-    def ended_since(self, parent: int, begin: int) -> list[bytes]:
-        """Returns the names of a directory that ended at a moment or later."""
-        return [name for name, ends in self._ends.get(parent, {}).items() if ends[-1] >= begin]
+    def ended_between(self, parent: int, begin: int, end: int) -> list[bytes]:
+        """Returns the names of a directory that ended at one of two moments or between them."""
+        return [name for name, ends in self._ends.get(parent, {}).items() if any(begin <= it <= end for it in ends)]
 
     def place_at(self, directory: int, moment: int) -> Optional[Place]:
         """Returns the name that a directory had at a moment, if it has lost that name since."""

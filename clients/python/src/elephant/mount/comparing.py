@@ -61,6 +61,7 @@ def _attributes(records: Records, of: Records) -> Iterator[bytes]:
         yield repr((key, it and plain(it))).encode()
     yield repr(sorted(records.announced.since.items())).encode()
     yield repr(sorted((made, source) for made, source in records.undone.items() if file_key(made[0]) in of.by_key)).encode()
+    yield repr(sorted((number, sorted(turns.values())) for number, turns in records.turns.items())).encode()
 
 
 def plain(it: Attributes) -> tuple[object, ...]:

@@ -47,7 +47,7 @@ _SHORT = frozenset(("clean", "default", "group", "mark", "pass", "policy", "unma
 # Lines that may use what is kept back of the limits.
 _UNDOING = frozenset(("undo", "redo", "undelete", "revert", "restore"))
 _OF_FILES = frozenset(("undo", "redo"))
-_TAKEN = {"undo": "a file or a folder, a moment or the number of a version, as '#3', if you like", "redo": "a file"}
+_TAKEN = {"undo": "a file or a folder, a moment or the number of a version, as '#3', if you like", "redo": "a file or a folder"}
 # A line of the mount's own that changes nothing.
 _LOOKS = frozenset(("changes",))
 # The place of the moment in lines that end with one.
@@ -221,7 +221,7 @@ class Lines:
         if not path.startswith("/") or options not in ([], ["--dry-run"]):
             raise ValueError(f"{words[0]} takes {_TAKEN[words[0]]}, and --dry-run")
         self.operations.require_writable()
-        place = self._as_shown(as_bytes(path))
+        place = self._as_shown(as_bytes(path)).rstrip(b"/")
         words[1:] = [place.decode("ascii"), *moment]
         has_parent = isinstance(self.tree.find(place.rpartition(b"/")[0]), Directory)
         number = version_in(moment)

@@ -10,6 +10,8 @@ The store's journal stores them, as remarks:
     # xattr f12 NS 757365722e61           file 12 has lost the attribute, and without a name it has none
     # undone f12 7 3 0                    version 7 of file 12 is what an undo or a redo brought back: what version 3 held, or, with a
                                           moment in place of 0, version 3 of the file that had the name until then
+    # turned d3 9 5 8                     at moment 9 an undo or a redo made directory 3 as it was at moment 5; before the first of these
+                                          undos it was as at moment 8
 
 The remarks `due` and `undue` are those of the guard: see _guard.py of the package.
 
@@ -24,7 +26,7 @@ import stat
 import time
 from binascii import hexlify, unhexlify
 from contextlib import suppress
-from typing import Optional
+from typing import NamedTuple, Optional
 
 from ..keeping import Announced
 
@@ -32,6 +34,18 @@ _COARSE = 5  # CLOCK_REALTIME_COARSE
 State = tuple[int, int]
 """What a name held: the number of a version, and 0, or until when another file had the name whose version it is."""
 FILE_MODE, DIRECTORY_MODE = stat.S_IFREG | 0o644, stat.S_IFDIR | 0o755
+
+
+class Turn(NamedTuple):
+    """An undo or a redo of a directory: when it was made, the moment whose state it brought back, and that of the state before the first
+    of the undos that it goes on from."""
+
+    made: int
+    state: int
+    origin: int
+
+    def remark(self, directory: int) -> bytes:
+        return b"# turned %b %d %d %d" % (word_of(directory_key(directory)), *self)
 
 
 class Attributes:
@@ -121,6 +135,8 @@ class Records:
         self.announced = Announced()
         self.undone: dict[tuple[int, int], State] = {}
         """By the numbers of a file and of a version that an undo or a redo has made: what it brought back."""
+        self.turns: dict[int, dict[int, Turn]] = {}
+        """By the number of a directory and the moment at which a turn was made."""
 
     def apply(self, remark: bytes) -> None:
         """Applies a remark of the journal. It passes over remarks of other programs."""
@@ -146,6 +162,9 @@ class Records:
         elif word == b"undone":
             version, source, until = map(int, rest[1:])
             self.undone[key_of(rest[0]) >> 1, version] = source, until
+        elif word == b"turned":
+            turn = Turn(*map(int, rest[1:]))
+            self.turns.setdefault(key_of(rest[0]) >> 1, {})[turn.made] = turn
 
     def _made(self, rest: list[bytes]) -> None:
         now = int(rest[5])

@@ -237,6 +237,7 @@ def _write(old: str, size: int, shortening: Shortening, journal: Journal, census
     announced.drop(announced.since.keys() - census.contents.keys())
     remarks += announced.remarks()
     remarks += [undone(*made, source) for made, source in census.records.undone.items() if file_key(made[0]) in files]
+    remarks += [turn.remark(number) for number, turns in census.records.turns.items() for turn in turns.values()]
     for start in range(0, len(remarks), REMARKS_AT_ONCE):
         journal.append(remarks[start:start + REMARKS_AT_ONCE])
     journal.sync()

@@ -6,7 +6,6 @@ from __future__ import annotations
 import errno
 from collections.abc import Callable, Iterable, Iterator
 from contextlib import suppress
-from functools import cache
 from typing import NamedTuple, Optional, Union
 
 from .. import DeletedName, Forgotten, Refused
@@ -14,17 +13,16 @@ from ..keeping import AT, VERSION, told_time
 from .chronicle import begin_of_last
 from .contents import Contents
 from .plans import Plan, Step
-from .records import State, undone
+from .records import State, Turn, undone
 from .steps import Steps
 from .store import MountStore
 from .then import Then
 from .tree import Directory, File, Tree
+from .turns import Turns
 from .whereabouts import Nothing, Whereabouts, told
 
 # Names that end with no longer pauses than this, in seconds, were deleted by one command.
 PAUSE = 10
-# And so were contents changed.
-CHANGE_PAUSE = 2
 MOST_TOLD = 20
 # A smaller number in place of a moment was meant as that of a version.
 MOST_VERSIONS = 1_000_000
@@ -53,6 +51,7 @@ class Undo:
         self.store, self.tree, self.contents = store, tree, contents
         self._store_at: StoreAt = store_at or (lambda moment: (store, moment))
         self._where = Whereabouts(store, tree)
+        self._turns = Turns(store, tree, self._where)
 
     def run(self, path: bytes, moment: Optional[int], is_dry: bool) -> str:
         """Brings a path back, and returns what it did, or would do. Raises Nothing if there is nothing to bring back."""
@@ -73,7 +72,7 @@ class Undo:
         if isinstance(node, File):
             return self._undo_save(path, node, is_dry)
         if isinstance(node, Directory):
-            return self._undo_to(path, node, self._before_last_change(node), is_dry)
+            return self._turn(path, node, self._turns.back(node), is_dry)
         return self._undelete(path, is_dry)
 
     # The last save of a file.
@@ -92,11 +91,17 @@ class Undo:
         return self._bring(path, node, self._different(path, node), is_dry)
 
     def redo(self, path: bytes, is_dry: bool) -> str:
-        """Brings back what the last undo of a file has taken back. Raises Nothing if there is nothing."""
+        """Brings back what the last undo of a file or a folder has taken back. Raises Nothing if there is nothing."""
+        path = path.rstrip(b"/")
         node = self.tree.find(path)
-        if not isinstance(node, File):
-            raise Nothing(f"redo is for a file, and {told(path)} is {'a folder' if node is not None else 'none'}")
+        if node is None:
+            raise Nothing(f"redo is for a file or a folder, and there is no {told(path)} now")
+        if isinstance(node, Directory):
+            return self._turn(path, node, self._turns.forward(node), is_dry)
         self.require_no_writer(node)
+        return self._redo_save(path, node, is_dry)
+
+    def _redo_save(self, path: bytes, node: File, is_dry: bool) -> str:
         last, position = self._last_save(node), self._position(node)
         if position == last:
             raise Nothing(f"{told(path)} is as it was saved last: there is nothing to redo")
@@ -281,42 +286,12 @@ class Undo:
 
     # A moment.
 
-    def _before_last_change(self, folder: Directory) -> int:
-        """Returns the last moment before the last changes below a folder."""
-        parents = self._where.parents()
-        numbers = self.store.chronicle.below(folder.number, parents)
-        moments = [it for number in numbers for it in self.store.chronicle.moments_in(number)]
-        for _, node in self._where.files_below(folder):
-            if isinstance(node, File) and node.draft is None and node.version > 1:
-                moments.append(int(self.store.stat_row(node.path).closed))
-        if not moments:
-            raise Nothing(f"nothing below {told(folder.path)} was ever changed")
-        return self._making_of(numbers, begin_of_last(moments, CHANGE_PAUSE)) - 1
-
-    def _making_of(self, folders: set[int], begin: int) -> int:
-        """Returns when the first of the names was made that have ended since `begin` and aren't there now, if that was shortly before, and
-        else `begin`: the copy that `sed -i` writes, for example, belongs to the change that renames it."""
-        path_at, now, found = cache(self._where.path_at), int(self.store.now), begin
-        for number in folders:
-            for name in self.store.chronicle.ended_since(number, begin):
-                if self._was_there(path_at(number, now), name, now):
-                    continue
-                moments = range(begin - 1, begin - CHANGE_PAUSE - 2, -1)
-                absent = next((it for it in moments if not self._was_there(path_at(number, it), name, it)), begin)
-                found = min(found, absent + 1)
-        return found
-
-    def _was_there(self, folder: Optional[bytes], name: bytes, moment: int) -> bool:
-        """Whether a folder had a name at a moment. `folder` is its path of then, or None."""
-        if folder is None or moment < 0:
-            return False
-        try:
-            self.store.stat_row(folder + b"/" + name, AT, moment)
-        except Forgotten:
-            return True
-        except Refused:
-            return False
-        return True
+    def _turn(self, path: bytes, node: Directory, turn: Turn, is_dry: bool) -> str:
+        """Makes a folder as it was before the last changes, or after them again."""
+        answer = self._undo_to(path, node, turn.state, is_dry)
+        if not is_dry:
+            self._turns.note(node, turn)
+        return answer
 
     def _undo_to(self, path: bytes, node: Optional[Union[File, Directory]], moment: int, is_dry: bool) -> str:
         if moment > self.store.now:
