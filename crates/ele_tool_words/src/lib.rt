@@ -17,5 +17,7 @@ mod zone;
 pub use clock::{read_clock, read_offset};
 pub use length::read_length;
 pub use policy::read_policy;
+pub use rungs::{MOST_RUNGS, read_rungs};
+pub use safe::safe_numbers;
 pub use time::{one_time, read_time};
 pub use zone::Offset;

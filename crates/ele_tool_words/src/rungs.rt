@@ -8,10 +8,10 @@ use crate::length::read_length;
 use arrayvec::ArrayVec;
 
 /// So many rungs has the longest ladder.
-const MOST_RUNGS: usize = 8;
+pub const MOST_RUNGS: usize = 8;
 
 /// The rungs that a text spells, if there are no more than a ladder has.
-pub(crate) fn read_rungs(text: &[u8]) -> Option<ArrayVec<(u64, u64), MOST_RUNGS>>
+pub fn read_rungs(text: &[u8]) -> Option<ArrayVec<(u64, u64), MOST_RUNGS>>
     ensures some { IfSome result (λ rungs. SpellsRungs text.now rungs.items) }
     ensures none { IfNone result ((rungs : List Rung) → SpellsRungs text.now rungs → 8 < length rungs) }
 {

@@ -10,7 +10,7 @@ use crate::length::read_length;
 use ele_moment::read_number;
 
 /// The seconds and the floor behind `safe:`.
-pub(crate) fn safe_numbers(text: &[u8]) -> Option<(u64, u64)>
+pub fn safe_numbers(text: &[u8]) -> Option<(u64, u64)>
     ensures found { IfSome result
         (λ numbers. SpellsSafe (list_any is_slash text.now) text.now numbers.0 numbers.1) }
     ensures only { (seconds floor : ℕ) → SpellsSafe (list_any is_slash text.now) text.now seconds floor

@@ -1,0 +1,2 @@
+-- moments from now on, and at a time of day
+mod Sums

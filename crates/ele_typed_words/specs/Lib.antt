@@ -1,0 +1,2 @@
+pub mod When
+pub mod Reason
