@@ -66,6 +66,7 @@ def lines(room: str, asked: argparse.Namespace) -> Counts:
         _changes(seen, mounted, second)
         _folder(seen, mounted, top / "w")
         seen.expect("no history", "mount the folder with --history" in mounted.ask("gone"), True)
+        _paths(seen, mounted, top / "w")
     return seen.counts()
 
 
@@ -142,6 +143,13 @@ def _changes(seen: Faults, mounted: Mounted, second: int) -> None:
     seen.expect("of one path", [(it["what"], it["before"]) for it in data], [("renamed", "d/my plan"), ("saved", None)])
 
 
+def _paths(seen: Faults, mounted: Mounted, folder: Path) -> None:
+    """Paths in a line of the script language, and the help on a line."""
+    listed = [mounted.ask("list", it).partition(" file ")[0] for it in ("w", str(folder), "/w", "w@now")]
+    seen.expect("paths", listed, ["ok names 1\n- g"] * 4)
+    seen.expect("help", mounted.ask("help", "redo").splitlines()[:2], ["Line:   redo FILE", "        redo FOLDER"])
+
+
 def audits(room: str, asked: argparse.Namespace) -> Counts:
     """A mount with `--history` answers an audit, also about what was before that option."""
     seen = Faults("audits")
@@ -150,8 +158,9 @@ def audits(room: str, asked: argparse.Namespace) -> Counts:
         for text in ("one", "two", "three"):
             (mounted.folder / "f").write_text(text)
         seen.expect("removals", mounted.ask("clean all"), "ok removed 3\n")
-        seen.expect("why one is gone", mounted.ask("why", "f", "2").splitlines()[0], "no 13 Forgotten -")
-        seen.expect("when", dated(mounted.ask("why", "f", "2").splitlines()[-1]), "- removed DATE, due since DATE")
+        seen.expect("why one is gone", dated(mounted.ask("why", "f", "2")).splitlines(), [
+            "no 13 Forgotten -", "- removed DATE, due since DATE", "- a mount with --history says why",
+        ])
     with Mounted(room, "--clean-every", "0", "--history") as mounted:
         gone = mounted.ask("gone").splitlines()
         seen.expect("gone", [it.split()[2:5] for it in gone[1:]], [["1", str(it), "/f"] for it in (1, 2, 3)])
@@ -200,7 +209,7 @@ def reasons(room: str, asked: argparse.Namespace) -> Counts:
 
 def typed(room: str, asked: argparse.Namespace) -> Counts:
     """The client's tests of these lines, by the Python that has pyfuse3."""
-    return run_tests("typed", ["test_mount_lines", "test_mount_typed"])
+    return run_tests("typed", ["test_mount_lines", "test_mount_language", "test_mount_typed"])
 
 
 CHECKS = [lines, audits, reasons, typed]

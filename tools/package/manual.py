@@ -76,7 +76,7 @@ def of_mount() -> str:
     return "".join([
         head("elephant-mount", 1, "a folder in which every save of a file is kept as a version"),
         ".SH SYNOPSIS\n.nf\n.B elephant\\-mount FOLDER \\-\\-journal FILE [OPTIONS]\n.B elephant\\-mount \\-\\-at FOLDER LINE\n",
-        ".B elephant\\-mount move OLD NEW\n.fi\n", *described(completions.of_mount(), PAGE, left_out),
+        ".B elephant\\-mount help LINE\n.B elephant\\-mount move OLD NEW\n.fi\n", *described(completions.of_mount(), PAGE, left_out),
         ".SH SEE ALSO\n.BR elephant (1),\n.BR elephant\\-browse (1),\n.BR elephant (3)\n",
     ])
 

@@ -31,12 +31,18 @@ OF_LOOK_UPS = {"IsRoot", "NoEntry", "NotDirectory", "IsDirectory", "Future", "No
 # Commands.
 
 
-def forms_of(command: Command, facts: Facts) -> list[str]:
-    """Returns the cells of a command: of one that takes either of two words two, and of one that may have a last word one with both."""
+def letters_of(command: Command, facts: Facts) -> list[str]:
+    """Returns the letters that stand for the words after a command."""
     letters, after_path = [], False
     for kind in command.kinds:
         letters.append(facts.letters[f"{kind} if after_path"] if kind == "Path" and after_path else facts.letters[kind])
         after_path = kind == "Path"
+    return letters
+
+
+def forms_of(command: Command, facts: Facts) -> list[str]:
+    """Returns the cells of a command: of one that takes either of two words two, and of one that may have a last word one with both."""
+    letters = letters_of(command, facts)
     last = letters[-1] if letters else ""
     usage = " ".join([command.words, *letters])
     if "|" in last:

@@ -1,23 +1,29 @@
 """What tools/pages/surface prints in the Python package: rows and calls of the library, exceptions with their names, lists of commands."""
 
 import re
+import textwrap
 from collections.abc import Iterator
 
 from gate.building import match_in
 from pages import surface_words as words
-from pages.surface_facts import Call, Code, Command, Facts
+from pages.surface_docs import letters_of
+from pages.surface_facts import COMMAND, PARAGRAPHS, Call, Code, Command, Facts, paragraphs_in
 from pages.surface_header import CODES_FROM, HEADER, Declared, declared
 from pages.surface_regions import HEAD, Tree, place_of, with_region, wrapped
 
 PACKAGE = "clients/python/src/elephant"
 LIBRARY, ERRORS, NAMES = (f"{PACKAGE}/{it}.py" for it in ("_library", "_errors", "__init__"))
 REPLAY, CONTROL, COUNTS = (place_of(PACKAGE, f"{HEAD}: {it}, from ") for it in ("the questions", "the lines", "the counts"))
+LANGUAGE = place_of(PACKAGE, f"{HEAD}: the commands, from ")
 ANSWERS = place_of(PACKAGE, "class Limits(NamedTuple):")
 FROM_COMMANDS = "ele_commands/src/command.rt and ele_model/specs/NothingChanges.antt"
+FROM_HELP = "ele_commands/src/command.rt and ele_help/src/paragraphs.rt"
 # What an exception is by the kind of its number.
 BASES = {"stop": ["Stop"], "refusal": ["Refused"], "line": ["Refused", "ValueError"], "handle": ["ElephantError", "ValueError"]}
 # The words of _library._PARTS for a type of C; a size belongs to the pointer before it.
 PARTS = {"uint64_t": "number", "uint32_t": "word", "const void *": "text", "void *": "into"}
+# The most characters of a text on a line.
+MOST_TEXT = 128
 # What the tree of a mount doesn't show.
 SHORT_TOPICS = ("Policies", "Groups", "Cleaning")
 
@@ -138,6 +144,20 @@ def control(tree: Tree, facts: Facts, _: Declared) -> str:
     return with_region(CONTROL, tree[CONTROL], "the lines", FROM_COMMANDS, body)
 
 
+def language(tree: Tree, facts: Facts, _: Declared) -> str:
+    """Returns the file with the line, the answer and the help of each command."""
+    told = dict(paragraphs_in(tree[COMMAND], tree[PARAGRAPHS]))
+    items = []
+    for it in facts.commands:
+        what = " ".join(told[it.words].partition("\nExample:")[0].split())
+        usage = " ".join([it.words, *letters_of(it, facts)])
+        lines = textwrap.wrap(what, MOST_TEXT, break_long_words=False, break_on_hyphens=False, drop_whitespace=False)
+        texts = "\n".join(f"        {quoted(line)}" for line in lines)
+        items.append(f"    {quoted(it.words)}: (\n        {quoted(usage)}, {quoted(it.answer)},\n{texts},\n    ),\n")
+    body = f"COMMANDS: dict[str, tuple[str, str, str]] = {{\n{''.join(items)}}}\n"
+    return with_region(LANGUAGE, tree[LANGUAGE], "the commands", FROM_HELP, body)
+
+
 def is_short(command: Command) -> bool:
     """Whether a command leaves names and contents."""
     return command.topic in SHORT_TOPICS
@@ -172,6 +192,7 @@ def _fields_of(name: str, text: str) -> str:
 
 PRINTED = {
     LIBRARY: library, ERRORS: errors, NAMES: names, REPLAY: replay, CONTROL: control, COUNTS: counts, ANSWERS: answers,
+    LANGUAGE: language,
 }
 
 

@@ -60,6 +60,8 @@ OF_FILES = [
     Planted(python.NAMES, '"IsDirectory", "IsRoot",', '"IsDirectory",', (python.NAMES,)),
     Planted(python.REPLAY, "due groups list", "due list", (python.REPLAY,)),
     Planted(python.CONTROL, '"clean", "default",', '"default",', (python.CONTROL,)),
+    Planted(python.LANGUAGE, '"Removes the mark of a group', '"Removes a mark of a group', (python.LANGUAGE,)),
+    Planted(python.LANGUAGE, '"rename P Q", "ok done"', '"rename P P", "ok done"', (python.LANGUAGE,)),
     Planted(python.COUNTS, 'b"rename": ("names",)', 'b"rename": ("files",)', (python.COUNTS,)),
     Planted(python.COUNTS, 'words[0] == b"group"', 'words[0] == b"open"', ("_command_of",)),
     Planted(docs.SCRIPT, "| `rmdir P` | `ok done` |", "| `rmdir P` | `ok gone` |", (docs.SCRIPT,)),

@@ -27,6 +27,7 @@ from elephant.mount.audit import NO_HISTORY, Audit
 from elephant.mount.control import Lines
 from elephant.mount.operations import Operations
 from elephant.mount.past import NotBegun, PastNode
+from elephant.mount.reasons import UNITS
 from elephant.mount.shorter import shorten
 from elephant.mount.store import MountStore
 from test_mount import FOLDER, MEMORY, Mounted
@@ -150,7 +151,8 @@ class Policies(Case):
         self.save(b"f", b"one")
         for line, wanted in (
             ("policy /f safe:07d",
-             "bad 32 Syntax\n- word 3: a policy is one, all, safe:SECONDS, safe:SECONDS/FLOOR or landmarks:AGE/WIDTH,..\n"),
+             "bad 32 Syntax\n- word 3: a policy is one, all, safe:SECONDS, safe:SECONDS/FLOOR or landmarks:AGE/WIDTH,..\n"
+             f"- {UNITS}\n"),
             ("policy /f landmarks:7d/1d,30d/30d,365d/365d",
              "bad 31 BadLadder\n- word 3: each width of a ladder divides the next, as 60 divides 3600\n"),
             ("policy f one", "bad 29 BadPath\n- word 2: a path begins with a slash\n"),
@@ -387,8 +389,11 @@ class Telling(Case):
         self.assertEqual(self.it.store.removals.of(1), wanted)
         self.again()
         self.assertEqual(self.it.store.removals.of(1), wanted)
-        self.assertEqual(self.ask("why /f 3"), f"no 13 Forgotten -\n- removed {told(now)}, due since {told(START + 20 + HOUR)}\n")
-        self.assertEqual(self.ask(f"why /f@{START + 15}"), "no 13 Forgotten -\n")
+        hint = "- a mount with --history says why\n"
+        removed = f"no 13 Forgotten -\n- removed {told(now)}, due since {told(START + 20 + HOUR)}\n{hint}"
+        for line in ("why /f 3", "why /f #3", "why /f#3"):
+            self.assertEqual(self.ask(line), removed, line)
+        self.assertEqual(self.ask(f"why /f@{START + 15}"), f"no 13 Forgotten -\n{hint}")
 
 
 class Listing(Case):
@@ -538,6 +543,8 @@ class Auditing(Case):
         self.assertEqual(self.ask("gone").splitlines()[1:], [row])
         self.assertEqual(self.ask("why /f 1"), f"ok why removed {now} due {START + HOUR} by age 3600\n")
         self.assertEqual(self.ask("why /f#1"), f"ok why removed {now} due {START + HOUR} by age 3600\n")
+        self.assertEqual(self.ask("why /f #1"), f"ok why removed {now} due {START + HOUR} by age 3600\n")
+        self.assertEqual(self.ask(f"why /f@{START - 1}").partition(" ")[0], "no")
         self.assertIn(f"removed {told(now)}, due since {told(START + HOUR)}: 1 hour after its end", self.ask("history /f"))
         history = self.ask("history").splitlines()
         self.assertEqual([it for it in history if it in ("- create /f", "- policy /f safe:3600", "- clean")],
@@ -580,6 +587,7 @@ class Typing(unittest.TestCase):
         self.top = str(Path(room.name).resolve())
         Path(self.top, "d").mkdir()
         Path(self.top, "d", "my plan").touch()
+        Path(self.top, "d", "a#1.txt").touch()
         for name, stand_in in (("mount_of", lambda _: self.top),):
             patch = mock.patch.object(client, name, stand_in)
             patch.start()
@@ -603,6 +611,14 @@ class Typing(unittest.TestCase):
             (("policy", "/d/my%20plan", "one"), "policy /d/my%20plan one"),
             (("policy", f"{self.top}/d/my plan", "one"), "policy /d/my%20plan one"),
             (("why", "d/my plan", "2"), "why /d/my%20plan 2"),
+            (("list", "."), "list /"), (("list", "/"), "list /"), (("stat", "d/my plan#2"), "stat /d/my%20plan#2"),
+            (("read", "d/my plan@1795942800"), "read /d/my%20plan@1795942800"), (("read", "/f@1970-01-01T01:00+00:00"), "read /f@3600"),
+            (("stat 'd/my plan@1970-01-01 01:00+00:00'",), "stat /d/my%20plan@3600"), (("stat", "/f@soon"), "stat /f@soon"),
+            (("read", "7"), "read 7"), (("read", "./7"), "read /7"),
+            (("rename", "d/my plan", "d/b"), "rename /d/my%20plan /d/b"), (("save", "d/new", "6869"), "save /d/new 6869"),
+            (("open", "read", "d/my plan"), "open read /d/my%20plan"), (("undelete", "d/x"), "undelete /d/x"),
+            (("stat", "d/a#1.txt"), "stat /d/a%231.txt"), (("stat", "d/a#1.txt#2"), "stat /d/a%231.txt#2"), (("list", ""), "list "),
+            (("why", "/d/a%231.txt#2"), "why /d/a%231.txt#2"), (("create", "d/a@b"), "create /d/a%40b"),
             (("group", "add", "g", "d/x"), "group add g /d/x"),
             (("group", "make", "g"), "group make g"),
             (("default", ".", "one"), "default / one"),
@@ -625,6 +641,12 @@ class Typing(unittest.TestCase):
     def test_json_is_printed_alone(self) -> None:
         self.assertEqual(self.send("history", "--json", "d", answer='ok\n{"a": 1}\n')[1:], (0, '{"a": 1}\n'))
         self.assertEqual(self.send("history", "--json", "d", answer="no: d is a folder\n")[1:], (1, "no: d is a folder\n"))
+
+    def test_a_name_that_is_too_long_is_told(self) -> None:
+        said = io.StringIO()
+        with contextlib.redirect_stderr(said):
+            self.assertEqual(main.main(["--at", self.top, "policy", "n" * 65, "one"]), 2)
+        self.assertRegex(said.getvalue(), "^elephant-mount: the name n* takes 65 bytes")
 
     def test_the_help_has_the_lines_in_80_columns(self) -> None:
         printed = io.StringIO()

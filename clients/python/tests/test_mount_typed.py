@@ -10,7 +10,7 @@ from pathlib import Path
 from typing import Optional
 
 from elephant import BadTime
-from elephant.mount.reasons import TAKES, reason
+from elephant.mount.reasons import TAKES, UNITS, kinds_of, reason, reasons
 from elephant.mount.timeline import Moments, Removals
 from elephant.mount.typed import moment_in, moments_in, policy_word, two_moments_in, version_in
 
@@ -108,6 +108,15 @@ class Reasons(unittest.TestCase):
                      "policy / landmarks:60/60,3600/120", "save /f -", "save /f 00fF", "list /", "due", "default /d all", "group add g /f"):
             self.assertEqual(reason(line.split(" ")), "", line)
 
+    def test_a_bad_policy_is_told_of_the_units_that_a_mount_takes(self) -> None:
+        self.assertEqual(reasons(["policy", "/f", "safe:7x"]), [reason(["policy", "/f", "safe:7x"]), UNITS])
+        self.assertEqual(reasons(["policy", "/f", "safe:60/17"]), ["word 3: a floor is at most 16 versions"])
+        self.assertEqual(reasons(["policy", "/f", "one"]), [])
+
+    def test_the_kinds_of_the_words_of_a_line(self) -> None:
+        for line, wanted in (("group add g /f", ["", "", "G", "P"]), ("read /f 2", ["", "TH", ""]), ("list", [""]), ("x /f", ["", ""])):
+            self.assertEqual(kinds_of(line.split(" ")), wanted, line)
+
     def test_the_first_bad_word_is_told(self) -> None:
         """The texts are those of `elephant run --explain`, as docs/TUTORIAL.md and the source of ele_reasons have them."""
         for line, wanted in (
@@ -156,11 +165,11 @@ class Timeline(Berlin):
         new = [noon + it for it in range(1000)]
         for it in old + new:
             moments.note(it)
-        self.assertEqual(list(moments.listed()), [old[2], old[4], *new])
+        self.assertEqual(list(moments.listed()), [old[0], old[2], old[4], *new])
         moments.note(new[-1])  # another change of the second
         moments.note(new[-1] + 1)
         # The first of today is left out now: today has later ones.
-        self.assertEqual(list(moments.listed()), [old[2], old[4], *new[1:], new[-1] + 1])
+        self.assertEqual(list(moments.listed()), [old[0], old[2], old[4], *new[1:], new[-1] + 1])
 
     def test_few_moments_are_all_listed(self) -> None:
         moments = Moments()
@@ -175,7 +184,13 @@ class Timeline(Berlin):
         first = [midnight - 2, midnight - 1, midnight]
         for it in [*first, *(midnight + DAY + it for it in range(1000))]:
             moments.note(it)
-        self.assertEqual(list(moments.listed())[:3], [midnight - 1, midnight, midnight + DAY])
+        self.assertEqual(list(moments.listed())[:4], [midnight - 2, midnight - 1, midnight, midnight + DAY])
+
+    def test_the_first_moment_is_listed_once_also_if_its_day_has_no_other(self) -> None:
+        moments = Moments()
+        for it in [TEN - DAY, *(TEN + it for it in range(1000))]:
+            moments.note(it)
+        self.assertEqual(list(moments.listed())[:2], [TEN - DAY, TEN])
 
     def test_removals_of_a_file(self) -> None:
         removals = Removals()

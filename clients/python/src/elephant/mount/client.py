@@ -9,11 +9,13 @@ from contextlib import suppress
 
 from .. import BadTime, read_time
 from .names import spelled
-from .typed import version_in
+from .reasons import kinds_of
+from .typed import moment_in, version_in
 
-# Lines of the mount's own that take one file or folder, and the places of the paths in others.
+# Lines of the mount's own that take one file or folder.
 _OF_FILES = ("undo", "redo", "history")
-_PATHS = {"policy": (1,), "default": (1,), "why": (1,), "versions": (1,), "group": (3,)}
+# The kinds of words that are paths, and those that a moment or the number of a version may follow.
+_PATHS, _TAGGED = ("P", "Q"), ("T", "A", "TH")
 
 
 def ask(folder: str, line: str) -> str:
@@ -26,8 +28,8 @@ def ask(folder: str, line: str) -> str:
 
 
 def typed_line(folder: str, text: str, words: list[str]) -> list[str]:
-    """Returns the words of a line with the paths as the store spells them: in a line of the mount's own all paths, and else those that
-    don't begin with a slash. `text` is the line as typed, if it was one word."""
+    """Returns the words of a line with its paths as the store spells them. In a line of the script language a path that begins with a
+    slash and isn't below the mount is the store's own. `text` is the line as typed, if it was one word."""
     word, rest = words[0], [it for it in words if it]
     if word in _OF_FILES and len(rest) > 1 or word == "restore" and not (len(words) == 3 and words[1][:1] == "/" and words[2].isdigit()):
         return _undo_line(folder, text, rest)
@@ -35,10 +37,7 @@ def typed_line(folder: str, text: str, words: list[str]) -> list[str]:
         options, rest = [it for it in rest if it.startswith("--")], [it for it in rest if not it.startswith("--")]
         path = [_spelled(folder, rest.pop())] if len(rest) > 3 and _is_path(folder, rest[-1]) else []
         return [*rest, *path, *options]
-    for at in _PATHS.get(word, ()):
-        if at < len(words) and (not words[at].startswith("/") or _is_below(os.path.abspath(words[at]), mount_of(folder))):
-            words[at] = _spelled(folder, words[at])
-    return words
+    return [_path_word(folder, kind, it) for kind, it in zip(kinds_of(words), words)]
 
 
 def _is_path(folder: str, word: str) -> bool:
@@ -49,6 +48,30 @@ def _is_path(folder: str, word: str) -> bool:
         read_time(word, int(time.time()))
         return False
     return os.path.lexists(word) or os.path.lexists(os.path.join(folder, word))
+
+
+def _path_word(folder: str, kind: str, word: str) -> str:
+    """Returns a word of a line of the script language, spelled if it is a path."""
+    if not word or kind not in (*_PATHS, *_TAGGED) or kind == "TH" and word.isdigit():
+        return word
+    path, tag = _without_tag(folder, word) if kind in _TAGGED else (word, "")
+    is_spelled = path.startswith("/") and not _is_below(os.path.abspath(path), mount_of(folder))
+    return (path if is_spelled else _spelled(folder, path)) + _moment_tag(tag)
+
+
+def _without_tag(folder: str, word: str) -> tuple[str, str]:
+    """Splits a path and the tag after it, `@` or `#` with what follows. A name that is there may have these signs itself."""
+    at = max(word.rfind("@"), word.rfind("#"))
+    if at < 0 or os.path.lexists(word) or os.path.lexists(os.path.join(folder, word.lstrip("/"))):
+        return word, ""
+    return word[:at], word[at:]
+
+
+def _moment_tag(tag: str) -> str:
+    """Returns a tag with its moment in seconds. One that is no moment stays: the answer says what is wrong with it."""
+    with suppress(BadTime):
+        return f"@{moment_in([tag[1:]], int(time.time()))}" if tag.startswith("@") else tag
+    return tag
 
 
 def _is_below(path: str, top: str) -> bool:

@@ -24,7 +24,7 @@ from .log import local
 from .marks import Marks
 from .names import name_in
 from .operations import Operations
-from .reasons import reason
+from .reasons import reasons
 from .spans import Spans
 from .story import Stories
 from .tree import Directory, File, Node
@@ -135,19 +135,25 @@ class Lines:
             words[_OF_MOMENTS[word]:] = [str(moment_in(words[_OF_MOMENTS[word]:], int(self.store.now)))]
         if word in ("policy", "default") and len(words) == 3:
             words[2] = policy_word(words[2])
+        number = version_in([f"#{words[2].removeprefix('#')}"]) if word == "why" and len(words) == 3 else None
+        if number is not None:
+            words = [word, f"{words[1]}#{number}"]
         answer = self.audit.line(" ".join(words)) if word in AUDIT else self._line(words)
         if word == "why" and answer.startswith("no 13 "):
-            return self._why_removed("#".join(words[1:]), answer)
-        return f"{answer}- {reason(words)}\n" if answer.startswith("bad ") and reason(words) else answer
+            return self._why_removed(words[1], answer)
+        return answer + "".join(f"- {it}\n" for it in reasons(words)) if answer.startswith("bad ") else answer
 
     def _why_removed(self, target: str, answer: str) -> str:
-        """Returns why a version was removed, if the history has it, or when, if the journal says so."""
+        """Returns why a version was removed, if the mount keeps a history, and else when."""
+        if self.audit.is_kept:
+            return self.audit.line(f"why {target}")
         path, _, number = target.partition("#")
-        if not number.isdigit() or self.audit.is_kept:
-            return self.audit.line(f"why {target}") if number.isdigit() else answer
-        node = self.tree.find(as_bytes(path))
-        found = self.store.removals.of(node.number).get(int(number)) if isinstance(node, File) else None
-        return answer if found is None else f"{answer}- removed {local(found.moment)}, due since {local(found.since)}\n"
+        found = None
+        with suppress(Nothing):
+            file = self.stories.file_of(as_bytes(path))
+            found = self.store.removals.of(file).get(int(number)) if number.isdigit() else None
+        when = "" if found is None else f"- removed {local(found.moment)}, due since {local(found.since)}\n"
+        return f"{answer}{when}- a mount with --history says why\n"
 
     def _mark(self, group: str, moments: list[int]) -> str:
         """Makes a mark, and says what it holds."""
@@ -162,8 +168,6 @@ class Lines:
             return "elephant-mount: the clock of a mount is the time of day\n"
         if words[:2] == ["open", "write"]:
             return "elephant-mount: programs write the files of a mount, and lines don't\n"
-        if word == "why" and len(words) == 3 and words[2].isdigit():
-            words = ["why", f"{words[1]}#{words[2]}"]
         if word in _OF_HANDLES and len(words) > 1 and words[1] in self._own_handles():
             return "no 15 NoHandle\n"
         if word not in _ASK:

@@ -14,42 +14,11 @@ from typing import Optional
 from .. import ElephantError, JournalLocked, Limits
 from ..keeping import about
 from .client import ask, typed_line
+from .helping import COLUMNS, LINES, help_on
+from .names import TooLong
 from .wording import JSON, line_of, words_of
 
 _DESCRIPTION = "Mounts a folder that keeps each save of each file as a version,\nand sends lines to a mounted one."
-_EPILOG = """\
-elephant-mount --at FOLDER LINE sends one of these lines to a mounted folder,
-and prints its answer. A MOMENT is a time as you type it: 'yesterday 15:00'.
-
-  undo FILE             bring back what it held before its last save; again:
-                        before that; a deleted file or folder comes back
-  undo FOLDER           bring back what was in it before its last changes
-  undo FILE MOMENT      as it was then; of a FOLDER too
-  undo FILE '#3'        what its version 3 held
-  redo FILE             take the last undo back
-  history FILE          its versions, and until when each is kept, and why
-  changes MOMENT MOMENT [PATH]
-                        what was made, saved, renamed, deleted between them
-  policy FILE safe:30d/3
-                        keep its versions for 30 days, and 3 for good
-  default FOLDER standard
-                        the policy of new files in it
-  why FILE 2            why version 2 stays, or since when it may go
-  due, ahead MOMENT     what may be removed now, or at that moment
-  clean all             remove all that is due now
-  group make G, group add G FILE, mark G MOMENT [until MOMENT], unmark G MOMENT
-                        keep what the files of a group held at a moment
-  gone, answers, handles, history, trim
-                        an audit of a mount with --history
-  usage, time, time is right, journal, rewrite, dump
-                        counts, the clock, the journal, policies as lines
-
-undo and redo take --dry-run; history and changes take --json. Each line of the
-script language works too: elephant help script lists them. .elephant in the
-folder has the past: .elephant/at, versions, restorable, soon, limits.
-
-elephant-mount move OLD NEW makes a new journal with what OLD has now, and
---past OLD then shows OLD's past beside it."""
 _MISSING = "elephant-mount: {}: on Debian, 'apt-get install python3-pyfuse3 fuse3' installs it, for /usr/bin/python3"
 
 
@@ -57,11 +26,11 @@ class _Help(argparse.RawDescriptionHelpFormatter):
     """Prints the lines as they are, in 80 columns everywhere."""
 
     def __init__(self, prog: str) -> None:
-        super().__init__(prog, width=80)
+        super().__init__(prog, width=COLUMNS)
 
 
 def _parser() -> argparse.ArgumentParser:
-    words = argparse.ArgumentParser(prog="elephant-mount", description=_DESCRIPTION, epilog=_EPILOG, formatter_class=_Help)
+    words = argparse.ArgumentParser(prog="elephant-mount", description=_DESCRIPTION, epilog=LINES, formatter_class=_Help)
     words.add_argument("folder", metavar="FOLDER", nargs="?", help="an empty folder, where the files appear")
     words.add_argument("--journal", metavar="FILE", help="the file that keeps all of it; it is made if it doesn't exist")
     words.add_argument("--every", type=float, default=0, metavar="MINUTES", help="make versions of files that stay open, as often as this")
@@ -96,6 +65,8 @@ def main(argv: Optional[list[str]] = None) -> int:
             print("elephant-mount: --at takes a FOLDER and a LINE", file=sys.stderr)
             return 2
         return send(words[1], words[2:])
+    if words[:1] == ["help"] and not any(it.startswith("-") for it in words):
+        return _help(words[1:])
     if words[:1] == ["move"]:
         return _move(words[1:])
     parser = _parser()
@@ -119,10 +90,13 @@ def send(folder: str, words: list[str]) -> int:
     """Sends a line and prints its answer. The status is 0 if it was answered `ok`, else 1."""
     typed = words[0] if len(words) == 1 else ""
     try:
-        words = typed_line(folder, typed, words_of(typed) if typed else list(words))
+        words = words_of(typed) if typed else list(words)
+        if words[0] == "help":
+            return _help(words[1:])
+        words = typed_line(folder, typed, words)
         answer = ask(folder, line_of(words))
-    except ValueError as fault:
-        print(f"elephant-mount: {fault}", file=sys.stderr)
+    except (ValueError, TooLong) as fault:
+        print(f"elephant-mount: {getattr(fault, 'reason', fault)}", file=sys.stderr)
         return 2
     except OSError as fault:
         print(f"elephant-mount: {folder} is no mounted folder of elephant-mount: {fault.strerror or fault}", file=sys.stderr)
@@ -130,6 +104,16 @@ def send(folder: str, words: list[str]) -> int:
     is_done = answer.startswith("ok")
     print(answer.partition("\n")[2] if is_done and JSON in words else answer, end="")
     return 0 if is_done else 1
+
+
+def _help(words: list[str]) -> int:
+    """Prints the help on a line, or the list of all lines, and returns the status."""
+    text = help_on(words)
+    if not text:
+        print(f"elephant-mount: there is no line {' '.join(words)!r}: 'elephant-mount help' lists them", file=sys.stderr)
+        return 2
+    print(text, end="")
+    return 0
 
 
 def _move(words: list[str]) -> int:

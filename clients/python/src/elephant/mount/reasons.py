@@ -35,11 +35,31 @@ BAD_PATH = "a path has no empty name and at most 32 names"
 BAD_NAME = "a name has at most 64 bytes, and is neither . nor .."
 BAD_MOMENT = "a moment is seconds since 1970, or a time as 2026-03-02T00:00:00Z"
 BAD_POLICY = "a policy is one, all, safe:SECONDS, safe:SECONDS/FLOOR or landmarks:AGE/WIDTH,.."
+UNITS = "SECONDS, AGE and WIDTH may have a unit here, s, m, h, d, w or y, as in safe:30d/3; standard is a policy too"
 _LARGEST, MOST_NAME, MOST_NAMES, MOST_FLOOR, MOST_RUNGS = (1 << 64) - 1, 64, 32, 16, 8
 _DATE = re.compile(r"\d{4}-\d\d-\d\dT\d\d:\d\d:\d\dZ")
 _NUMBER = "(0|[1-9][0-9]{0,18})"
 _SAFE = re.compile(f"safe:{_NUMBER}(?:/{_NUMBER})?")
 _LADDER = re.compile(f"landmarks:{_NUMBER}/{_NUMBER}(?:,{_NUMBER}/{_NUMBER})*")
+
+
+def _name_of(words: Sequence[str]) -> str:
+    """Returns the name of the command that words are, or an empty text."""
+    return next((it for it in (" ".join(words[:2]), words[0]) if it in TAKES), "")
+
+
+def kinds_of(words: Sequence[str]) -> list[str]:
+    """Returns the kind of each word of a line, as `TAKES` names it. A word of the command's name, or one too many, has none."""
+    name = _name_of(words)
+    kinds = [*([""] * len(name.split())), *TAKES.get(name, "").split()]
+    return [*kinds, *([""] * len(words))][:len(words)]
+
+
+def reasons(words: Sequence[str]) -> list[str]:
+    """Returns why these words are no line of the mount, which takes more than the program does, or nothing."""
+    told = reason(words)
+    hint = UNITS if told.endswith(BAD_POLICY) else ""
+    return [it for it in (told, hint) if it]
 
 
 def reason(words: Sequence[str]) -> str:
@@ -48,7 +68,7 @@ def reason(words: Sequence[str]) -> str:
         fault = _unfit(word)
         if fault:
             return f"word {number}: {fault}"
-    name = next((it for it in (" ".join(words[:2]), words[0]) if it in TAKES), "")
+    name = _name_of(words)
     if not name:
         is_begun = words[0] in _SECOND
         return f"word {1 + is_begun}: {_SECOND[words[0]] if is_begun else _hint(words[0])}"

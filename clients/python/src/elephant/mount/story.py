@@ -40,7 +40,7 @@ class Stories:
         paths = [it for it in words if not it.startswith("--")]
         if len(paths) != 1 or not paths[0].startswith("/") or set(words) - {*paths, JSON}:
             raise ValueError(f"history takes a file, and {JSON}")
-        file = self._file_of(as_bytes(paths[0]))
+        file = self.file_of(as_bytes(paths[0]))
         found = self._where.stat_of(file)
         policy = None if found is None else found.policy
         chapters = list(self._chapters(file, policy))
@@ -65,7 +65,7 @@ class Stories:
             lines += [f"name {it['name']} {'now' if it['until'] is None else 'until ' + it['until']}" for it in names]
         return "".join(f"{it.rstrip()}\n" for it in lines)
 
-    def _file_of(self, path: bytes) -> int:
+    def file_of(self, path: bytes) -> int:
         """Returns the number of the file that has a path, or had it last. Raises Nothing."""
         node = self._tree.find(path)
         if isinstance(node, File):

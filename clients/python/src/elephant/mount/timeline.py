@@ -28,11 +28,13 @@ class Moments:
             self._all.append(moment)
 
     def listed(self) -> Iterator[int]:
-        """Yields the last moment of each day, and then each of the last thousand moments."""
+        """Yields the first moment, the last one of each day, and then each of the last thousand moments."""
         at, first = 0, max(len(self._all) - MOST_MOMENTS, 0)
+        if first:
+            yield self._all[0]
         while at < first:
             at = bisect_left(self._all, _end_of_day(self._all[at]), at)
-            if at <= first:
+            if 1 < at <= first:
                 yield self._all[at - 1]
         yield from self._all[first:]
 
