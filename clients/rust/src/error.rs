@@ -15,7 +15,7 @@ pub enum Limit {
     Directories,
     /// Names ever made.
     Names,
-    /// Versions made, and open drafts.
+    /// Versions made and open drafts.
     Versions,
     /// Handles ever opened.
     Handles,

@@ -2,6 +2,7 @@
 //! `tools/examples` compares it with `docs/ERRORS.md`.
 
 use crate::script::pad;
+use crate::wrapped::put_wrapped;
 use ele_model::{Refusal, Stop, Which};
 use ele_printer::LineFault;
 use ele_run_options::ShellFault;
@@ -90,7 +91,7 @@ fn put_error(
     let mut line = format!(in alloc; "  {number} {name}")?;
     pad(&mut line, WIDTH)?;
     text.push_str(line.as_str())?;
-    text.push_str(meaning)?;
+    put_wrapped(text, WIDTH, meaning)?;
     text.push_str("\n")
 }
 

@@ -7,5 +7,6 @@ mod pages;
 mod paragraphs;
 mod script;
 mod topics;
+mod wrapped;
 
 pub use topics::topic_help;

@@ -34,22 +34,22 @@ pub(crate) const LIMITS: &str = "\
 What was ever made counts for good: nothing that you remove, unlink or close
 makes a number free again.
 
-  What                            Most           Answer above it
-  files ever made                 100,000        no 27 Full files
-  directories ever made           10,000         no 27 Full directories
-  names ever made                 200,000        no 27 Full names
-  versions made, and open drafts  1,000,000      no 27 Full versions
-  handles ever opened             1,000,000      no 27 Full handles
-  groups ever made                1,000          no 27 Full groups
-  files ever added to groups      100,000        no 27 Full members
-  marks ever made                 10,000         no 27 Full marks
-  events of a history             1,000,000      stop 2 HistoryFull; see --events
-  lines of a run                  1,000,000      36 TooManyLines, status 1
-  bytes of a run                  8,589,934,592  36 TooManyLines, status 1
-  bytes of a line                 8,192          bad 33 LineTooLong
-  names of a path                 32             bad 29 BadPath
-  bytes of a name                 64             bad 28 BadName
-  bytes of a content              1,048,576      no 17 TooBig
+  What                           Most           Answer above it
+  files ever made                100,000        no 27 Full files
+  directories ever made          10,000         no 27 Full directories
+  names ever made                200,000        no 27 Full names
+  versions made and open drafts  1,000,000      no 27 Full versions
+  handles ever opened            1,000,000      no 27 Full handles
+  groups ever made               1,000          no 27 Full groups
+  files ever added to groups     100,000        no 27 Full members
+  marks ever made                10,000         no 27 Full marks
+  events of a history            1,000,000      stop 2 HistoryFull; see --events
+  lines of a run                 1,000,000      36 TooManyLines, status 1
+  bytes of a run                 8,589,934,592  36 TooManyLines, status 1
+  bytes of a line                8,192          bad 33 LineTooLong
+  names of a path                32             bad 29 BadPath
+  bytes of a name                64             bad 28 BadName
+  bytes of a content             1,048,576      no 17 TooBig
 
 The root isn't one of the directories.
 ";

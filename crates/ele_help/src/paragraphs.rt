@@ -10,7 +10,7 @@ pub(crate) static PARAGRAPHS: [(&str, &str); 43] = [
     ),
     // answers
     (
-        "Prints how many events were folded (F), how many are stored (K), and each stored one with its answer below\nits line. It needs the option --explain. It is never refused.",
+        "Prints how many events were folded (F), how many are stored (K), and each stored\none with its answer below its line. It needs the option --explain. It is never\nrefused.",
         "\nExample:\n    create /f    ok file 1\n    answers      ok answers 0 1\n                 - create /f\n                 ok file 1\n",
     ),
     // abandon
@@ -75,7 +75,7 @@ pub(crate) static PARAGRAPHS: [(&str, &str); 43] = [
     ),
     // gone
     (
-        "Lists the versions that the stored events removed: when, the file, the version, the path that the file had\nthen, and why it was due. It needs the option --explain. It is never refused.",
+        "Lists the versions that the stored events removed: when, the file, the version,\nthe path that the file had then, and why it was due. It needs the option\n--explain. It is never refused.",
         "\nExample:\n    gone    ok gone 0 0\n",
     ),
     // history
@@ -85,7 +85,7 @@ pub(crate) static PARAGRAPHS: [(&str, &str); 43] = [
     ),
     // handles
     (
-        "Lists the open handles: the handle, the file, the version that it reads or 'draft', since when, and the path.\nThe draft counts from its first writer. It needs the option --explain. It is never refused.",
+        "Lists the open handles: the handle, the file, the version that it reads or\n'draft', since when, and the path. The draft counts from its first writer. It\nneeds the option --explain. It is never refused.",
         "\nExample:\n    create /f        ok file 1\n    open write /f    ok handle 1\n    handles          ok handles 1\n                     - 1 1 draft 0 /f\n",
     ),
     // link

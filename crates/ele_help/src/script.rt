@@ -1,6 +1,7 @@
 //! The commands of scripts, as the program lists them: a heading for each topic, and a line for each
 //! command. `tools/examples` compares the lines with those of `docs/SCRIPT.md`.
 
+use crate::wrapped::put_wrapped;
 use ele_commands::{HELP, ROWS, Row, Topic, WordKind};
 use std::alloc::{AllocError, Global};
 
@@ -21,8 +22,8 @@ const LETTERS: &str = "
            versions closed in that second, the last of them
   T        the same, or a path#V for the version of that number
   G        the name of a group
-  X        bytes as hexadecimal digits, as printf 'hi' | xxd -p prints them, or -
-           for none
+  X        bytes as hexadecimal digits, as printf 'hi' | xxd -p prints them,
+           or - for none
   POL      one, all, safe:SECONDS, safe:SECONDS/FLOOR or landmarks:AGE/WIDTH,..
            in seconds: 604800 is a week
   [U]      a word that you may leave out; T|H is either of two
@@ -45,7 +46,7 @@ static HEADINGS: [(Topic, &str); 9] = [
 ];
 
 // The column of the answers.
-const WIDTH: usize = 19;
+const WIDTH: usize = 23;
 
 // The letters that stand for a word. A path after another path is Q.
 fn letters(kind: WordKind, after_path: bool) -> &'static str {
@@ -94,12 +95,11 @@ pub(crate) fn pad(text: &mut String, width: usize) -> Result<(), AllocError> {
 
 // Appends the line of a command.
 fn put_line(alloc: Global, text: &mut String, row: &Row, answer: &str) -> Result<(), AllocError> {
-    let mut usage = String::new(alloc);
+    let mut usage = String::from_str(alloc, "    ")?;
     put_usage(&mut usage, row)?;
     pad(&mut usage, WIDTH)?;
-    text.push_str("    ")?;
     text.push_str(usage.as_str())?;
-    text.push_str(answer)?;
+    put_wrapped(text, WIDTH, answer)?;
     text.push_str("\n")
 }
 

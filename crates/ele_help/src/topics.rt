@@ -8,6 +8,7 @@ use crate::errors::errors_help;
 use crate::pages::{LIMITS, POLICIES};
 use crate::paragraphs::PARAGRAPHS;
 use crate::script::{put_usage, script_help};
+use crate::wrapped::put_wrapped;
 use ele_commands::{Command, HELP, ROWS, Row};
 use std::alloc::{AllocError, Global};
 
@@ -30,6 +31,9 @@ fn place_of(command: Command) -> usize
     command as usize
 }
 
+// What is before the answer of a command.
+const ANSWER: &str = "Answer: ";
+
 // Appends the line of a command, its answer, what it does and its example.
 fn put_command(text: &mut String, row: &Row) -> Result<(), AllocError> {
     let (command, _, _, _, _) = *row;
@@ -41,8 +45,9 @@ fn put_command(text: &mut String, row: &Row) -> Result<(), AllocError> {
     }
     text.push_str("Line:   ")?;
     put_usage(text, row)?;
-    text.push_str("\nAnswer: ")?;
-    text.push_str(answer)?;
+    text.push_str("\n")?;
+    text.push_str(ANSWER)?;
+    put_wrapped(text, ANSWER.len(), answer)?;
     text.push_str("\n\n")?;
     text.push_str(what)?;
     text.push_str("\n")?;
