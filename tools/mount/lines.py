@@ -144,9 +144,12 @@ def _changes(seen: Faults, mounted: Mounted, second: int) -> None:
 
 
 def _paths(seen: Faults, mounted: Mounted, folder: Path) -> None:
-    """Paths in a line of the script language, and the help on a line."""
+    """Paths in a line of the script language, the help on a line, and what goes until a moment."""
     listed = [mounted.ask("list", it).partition(" file ")[0] for it in ("w", str(folder), "/w", "w@now")]
     seen.expect("paths", listed, ["ok names 1\n- g"] * 4)
+    first, second, *soon = mounted.ask("soon", "2040-01-01").splitlines()
+    seen.expect("soon", (first.partition(" until ")[0], second), (f"ok {len(soon)} versions go", "This mount removes nothing by itself."))
+    seen.expect("its rows", [it for it in soon if " version 1 of /" in it and ": 1 hour after its end" in it] != [], True)
     seen.expect("help", mounted.ask("help", "redo").splitlines()[:2], ["Line:   redo FILE", "        redo FOLDER"])
 
 

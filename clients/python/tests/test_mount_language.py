@@ -136,7 +136,7 @@ class Helping(Case):
         tried = 0
         for name, page in OWN.items():
             for line in page.examples:
-                if name in ("time", "journal", "rewrite", "dump", "help", "clean"):
+                if name in ("time", "journal", "rewrite", "dump", "help", "clean", "soon"):
                     continue
                 told_line = line.replace("letter", "/letter").replace("work", "/work")
                 answer = self.ask(told_line)

@@ -15,6 +15,7 @@ except ImportError:
 import elephant
 from clocks import DAY, START, FalseClocks
 from elephant._guard import SETTLE
+from elephant.keeping import told_time
 from elephant.mount.cleaning import Cleaner
 from elephant.mount.control import Lines
 from elephant.mount.log import Log, local
@@ -330,6 +331,18 @@ class Texts(Case):
             f"{local(deleted + day)}          1 bytes  version 2 of deleted /g: 7 days after its end",
         ])
 
+    def test_a_line_lists_what_goes_until_a_moment(self) -> None:
+        self.filled()
+        lines = Lines(self.operations)
+        lines.soon = self.texts.answer
+        first, of_week = START + 7 * DAY, self.soon()
+        self.assertEqual(lines.answer(f"soon {first}")[0], f"ok 1 version goes until {told_time(first)}\n{of_week[0]}\n")
+        self.assertEqual(lines.answer(f"soon {first - 1}")[0], f"ok 0 versions go until {told_time(first - 1)}\n")
+        head, *rows = lines.answer("soon")[0].splitlines()
+        self.assertEqual((head, rows), (f"ok 5 versions go until {told_time(int(self.clocks.day) + 7 * DAY)}", of_week))
+        self.assertRegex(lines.answer(f"soon {START}")[0], "^no: .* is past\n$")
+        self.assertRegex(lines.answer("soon enough")[0], "^elephant-mount: 'enough' is no time")
+
     def test_soon_says_what_waits_and_until_when(self) -> None:
         self.filled()
         self.end()
@@ -339,6 +352,9 @@ class Texts(Case):
         self.assertTrue(self.soon()[0].startswith("removals: none for 10 minutes yet"))
         until = local(int(self.clocks.day) + DAY)
         self.assertEqual([row.startswith(until) and ", due since " in row for row in self.soon()[1:]], [True] * 5)
+        tomorrow = int(self.clocks.day) + DAY
+        self.assertRegex(self.texts.answer(tomorrow - 1), "^ok 0 versions go until .*\nremovals: none for 10 minutes yet\n$")
+        self.assertRegex(self.texts.answer(tomorrow), "^ok 5 versions go until ")
 
     def test_soon_says_why_under_a_ladder(self) -> None:
         it = self.mount()
@@ -351,6 +367,7 @@ class Texts(Case):
         self.mount()
         self.pass_by(HOUR)
         self.assertEqual(self.soon(), ["Nothing is to be removed within a week."])
+        self.assertRegex(self.texts.answer(None), "^ok 0 versions go until .*\n$")
 
     def test_deleted_files_are_listed_with_the_moment_until_which_they_stay(self) -> None:
         it = self.filled()

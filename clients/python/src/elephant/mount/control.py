@@ -17,7 +17,7 @@ from contextlib import suppress
 from typing import Optional
 from zlib import crc32
 
-from .. import BadName, ClockDoubt, ElephantError, Refused
+from .. import BadName, BadTime, ClockDoubt, ElephantError, Refused
 from ..keeping import AT, NoSpace, require_shown, told_time
 from .audit import LINES as AUDIT, Audit
 from .log import local
@@ -48,8 +48,8 @@ _SHORT = frozenset(("clean", "default", "group", "mark", "pass", "policy", "unma
 _UNDOING = frozenset(("undo", "redo", "undelete", "revert", "restore"))
 _OF_FILES = frozenset(("undo", "redo"))
 _TAKEN = {"undo": "a file or a folder, a moment or the number of a version, as '#3', if you like", "redo": "a file or a folder"}
-# A line of the mount's own that changes nothing.
-_LOOKS = frozenset(("changes",))
+# Lines of the mount's own that change nothing.
+_LOOKS = frozenset(("changes", "soon"))
 # The place of the moment in lines that end with one.
 _OF_MOMENTS = {"unmark": 2, "ahead": 1}
 _MAKE = frozenset(("mkdir", "create", "link", "rename"))
@@ -71,6 +71,8 @@ class Lines:
         self.spans = Spans(self.store, operations.past.store_at)
         self._is_of_one = False
         """Whether the last undo changed one name of a folder, and what is below it."""
+        self.soon: Optional[Callable[[Optional[int]], str]] = None
+        """Answers what goes until a moment, or within a week."""
         self.more: dict[str, Callable[[], str]] = {}
         """Lines of the mount's own, without words, that are answered without the lock."""
 
@@ -114,7 +116,7 @@ class Lines:
             return f"no: {fault}\n"
         if isinstance(fault, Refused):
             return f"no {str(fault).split(':')[0]}\n"
-        if isinstance(fault, ClockDoubt):
+        if isinstance(fault, (BadTime, ClockDoubt)):
             return f"elephant-mount: {fault.subject}\n"
         if not isinstance(fault, ValueError):
             self.operations.errno_of(fault)
@@ -129,6 +131,8 @@ class Lines:
             return self.stories.answer(words[1:])
         if word == "changes":
             return self.spans.answer(words[1:])
+        if word == "soon" and self.soon is not None:
+            return self.soon(moment_in(words[1:], int(self.store.now)) if words[1:] else None)
         if word == "mark" and len(words) > 2:
             return self._mark(words[1], moments_in(words[2:], int(self.store.now)))
         if word in _OF_MOMENTS and len(words) > _OF_MOMENTS[word]:

@@ -80,14 +80,20 @@ OWN = {
     ),
     "due": Help(
         ("due",),
-        ("Lists the versions that may be removed now: since when, the number of the file, and the version. .elephant/soon lists them with "
-         "names and dates.",),
+        ("Lists the versions that may be removed now, for programs: since when, the number of the file, and the version. soon has names "
+         "and dates.",),
         ("due",),
     ),
     "ahead": Help(
         ("ahead MOMENT",),
         (f"Lists the versions that may be removed at MOMENT if nothing else changes, as due does. {_MOMENT}",),
         ("ahead 2027-01-01",),
+    ),
+    "soon": Help(
+        ("soon", "soon MOMENT"),
+        (f"Lists what goes within a week, or until MOMENT, if nothing else changes: when, the size, which version of which file, and why. "
+         f".elephant/soon has the same text for a week. {_MOMENT}",),
+        ("soon", "soon 2027-01-01"),
     ),
     "clean": Help(
         ("clean all", "clean"),
@@ -182,7 +188,8 @@ and prints its answer. A MOMENT is a time as you type it: 'yesterday 15:00'.
   default FOLDER standard
                         the policy of new files in it
   why FILE 2            why version 2 stays, or since when it may go
-  due, ahead MOMENT     what may be removed now, or at that moment
+  soon [MOMENT]         what goes within a week, or until then, and why
+  due, ahead MOMENT     the same for programs: what may be removed now or then
   clean all             remove all that is due now
   group make G, group add G FILE, mark G MOMENT [until MOMENT], unmark G MOMENT
                         keep what the files of a group held at a moment

@@ -75,7 +75,7 @@ class Mount:
     def _show_removals(self, has_cleaning: bool) -> None:
         soon = Soon(self.keeper.cleaner, has_cleaning)
         self.past.texts.update({"soon": soon.soon, "restorable-until": soon.until})
-        self.past.notes = soon.notes
+        self.past.notes, self.lines.soon = soon.notes, soon.answer
 
     def _clean_all(self) -> str:
         if self.store.is_read_only:

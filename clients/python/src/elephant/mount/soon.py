@@ -1,13 +1,15 @@
-"""The texts `.elephant/soon`, which lists what goes within a week, and `.elephant/restorable-until`, until when deleted files stay."""
+"""The texts `.elephant/soon`, which lists what goes within a week, and `.elephant/restorable-until`, until when deleted files stay. It also
+answers `soon MOMENT`, which lists what goes until then."""
 
 from __future__ import annotations
 
 from typing import NamedTuple, Optional
 
 from .. import LAST_MOMENT, ElephantError, KeepSafe, Landmarks, Policy, Removable
-from ..keeping import AT, DAY, NOW, named, span
+from ..keeping import AT, DAY, NOW, named, span, told_time
 from .cleaning import Cleaner, shown_path
 from .log import local
+from .whereabouts import Nothing
 
 AHEAD = 7 * DAY
 # The most rows of a list: the folder waits while it is made.
@@ -48,14 +50,38 @@ class Soon:
             self._seen, self._soon = seen, self._made(seen[0])
         return self._soon
 
+    def answer(self, moment: Optional[int]) -> str:
+        """Returns the answer to `soon`: what goes until a moment, or within a week. Raises Nothing if the moment is past."""
+        now = int(self._store.now)
+        until = min(now + AHEAD, LAST_MOMENT) if moment is None else moment
+        if until < now:
+            raise Nothing(f"{told_time(until)} is past")
+        count, rows = self._rows(now, until)
+        which = "1 version goes" if count == 1 else f"{count} versions go"
+        return f"ok {which} until {told_time(until)}\n" + _text([*self._head(), *rows]).decode()
+
     def _made(self, now: int) -> bytes:
+        _, rows = self._rows(now, min(now + AHEAD, LAST_MOMENT))
+        return _text([*self._head(), *(rows or ["Nothing is to be removed within a week."])])
+
+    def _head(self) -> list[str]:
+        """Returns why nothing is removed now, if there are reasons."""
+        head = [] if self._has_cleaning else ["This mount removes nothing by itself."]
+        return [*head, *filter(None, [self.notes().rstrip("\n")])]
+
+    def _rows(self, now: int, until: int) -> tuple[int, list[str]]:
+        """Returns how many versions go until a moment, and a row for each, first what goes first."""
         files: dict[int, Past] = {}
-        keys = sorted(self._store.ahead(min(now + AHEAD, LAST_MOMENT)) + self._cleaner.held_keys)
+        found = sorted(self._store.ahead(until) + self._cleaner.held_keys)
+        keys = [it for it in found if self._when(it) <= until]
         rows = [self._row(key, files, now) for key in keys[:MOST_ROWS]]
         if len(keys) > MOST_ROWS:
             rows.append(f"and {len(keys) - MOST_ROWS} more")
-        head = [] if self._has_cleaning else ["This mount removes nothing by itself."]
-        return _text([*head, *filter(None, [self.notes().rstrip("\n")]), *(rows or ["Nothing is to be removed within a week."])])
+        return len(keys), rows
+
+    def _when(self, key: Removable) -> int:
+        """Returns when a version goes: when it becomes due, or has waited."""
+        return max(self._cleaner.waits.get(named(key)) or 0, int(key.since))
 
     def _row(self, key: Removable, files: dict[int, Past], now: int) -> str:
         file = files.get(key.file)
@@ -63,7 +89,7 @@ class Soon:
             file = files[key.file] = self._file(key.file)
         length, ended = file.versions.get(key.number, (-1, 0))
         waits = self._cleaner.waits.get(named(key))
-        when = local(max(waits or 0, int(key.since)))
+        when = local(self._when(key))
         size = f"{length:,}" if length >= 0 else "-"
         which = f"version {key.number} of {'deleted ' * file.is_deleted}{file.path}"
         because = cause(file.policy, int(key.since), ended, file.is_deleted)
