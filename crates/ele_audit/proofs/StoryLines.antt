@@ -1,11 +1,13 @@
 -- The bytes of the lines of a story, part after part.
-use Rattle.ele_audit.proofs.Basics.{arith, nat_tests, ◌≡◌, ℕ, List, [], ◌∷◌, ◌++◌, append_assoc, codes, decimal, refl, sym, ap, ◌∙◌, Option, Some, None}
+use Rattle.ele_audit.proofs.Basics.{arith, nat_tests, ◌≡◌, ℕ, List, [], ◌∷◌, ◌++◌, append_assoc, codes, decimal, join_with_byte, refl, sym, ap, ◌∙◌, Option, Some, None}
 use Rattle.ele_audit.specs.AuditText.{path_or_dash}
 use Rattle.ele_audit.specs.LivePath.{names_in}
 use Rattle.ele_audit.specs.Rows.{spaced}
-use Rattle.ele_audit.specs.StoryText.{fate_or_dash, info_words, name_story_line, removed_words, version_story_line}
+use Rattle.ele_audit.specs.StoryText.{fate_or_dash, hold_words, info_words, name_story_line, removed_words, version_story_line}
 use Rattle.ele_audit.specs.declared.story_row.NameStory.{NameStory}
 use Rattle.ele_audit.specs.declared.story_row.VersionStory.{VersionStory}
+use Rattle.ele_model.specs.declared.rows.MarkRow.{MarkRow}
+use Rattle.ele_model.specs.FateText.{mark_word}
 use Rattle.ele_model.specs.declared.fate.Fate.{Fate}
 use Rattle.ele_output.specs.Line.{line_text}
 use Rattle.ele_printer.proofs.Lines.{behind_word, fate_first, line_is}
@@ -29,16 +31,23 @@ fate_or_dash_first (Some fate) = fate_first fate
 behind_fate : (fate : Option Fate) → behind_word (fate_or_dash fate) ≡ 32 ∷ line_text (fate_or_dash fate)
 behind_fate fate = let first = fate_or_dash_first fate in rw first.2 (behind_line first.0 first.1)
 
+-- the words of a mark in their parts
+pub held_parts : (group : List ℕ) (mark : MarkRow) → spaced (codes "held" ∷ group ∷ mark_word mark ∷ []) ≡ join_with_byte 32 (codes " held" ∷ group ∷ []) ++ (32 ∷ mark_word mark)
+held_parts group mark = three (codes " held") group (32 ∷ mark_word mark) where
+  three : (a b c : List ℕ) → a ++ ((32 ∷ b) ++ c) ≡ join_with_byte 32 (a ∷ b ∷ []) ++ c
+  three a b c = sym (append_assoc a (32 ∷ b) c)
+
 pub version_story_parts : (row : VersionStory) → version_story_line row
-    ≡ (codes "- version " ++ decimal row.number) ++ (spaced (info_words row.info) ++ (spaced (removed_words row.removed) ++ (32 ∷ line_text (fate_or_dash row.fate))))
+    ≡ (codes "- version " ++ decimal row.number) ++ (spaced (info_words row.info) ++ (spaced (removed_words row.removed) ++ (spaced (hold_words row.hold) ++ (32 ∷ line_text (fate_or_dash row.fate)))))
 version_story_parts row =
     let info = info_words row.info in
     let removed = removed_words row.removed in
+    let hold = hold_words row.hold in
     let fate = fate_or_dash row.fate in
-    line_is (codes "- version") (decimal row.number ∷ info ++ (removed ++ fate))
+    line_is (codes "- version") (decimal row.number ∷ info ++ (removed ++ (hold ++ fate)))
     ∙ ap (λ (rest : List ℕ). codes "- version" ++ ((32 ∷ decimal row.number) ++ rest))
-    (behind_append info (removed ++ fate) ∙ ap (λ (rest : List ℕ). spaced info ++ rest) (behind_append removed fate ∙ ap (λ (rest : List ℕ). spaced removed ++ rest) (behind_fate row.fate)))
-    ∙ sym (append_assoc (codes "- version ") (decimal row.number) (spaced info ++ (spaced removed ++ (32 ∷ line_text fate))))
+    (behind_append info (removed ++ (hold ++ fate)) ∙ ap (λ (rest : List ℕ). spaced info ++ rest) (behind_append removed (hold ++ fate) ∙ ap (λ (rest : List ℕ). spaced removed ++ rest) (behind_append hold fate ∙ ap (λ (rest : List ℕ). spaced hold ++ rest) (behind_fate row.fate))))
+    ∙ sym (append_assoc (codes "- version ") (decimal row.number) (spaced info ++ (spaced removed ++ (spaced hold ++ (32 ∷ line_text fate)))))
 
 pub name_story_parts : (name : NameStory) → name_story_line name
     ≡ (codes "- name " ++ decimal name.birth) ++ ((32 ∷ end_word name.death) ++ ((32 ∷ path_or_dash (names_in name.path)) ++ 10 ∷ []))

@@ -2,11 +2,14 @@
 use Rattle.std.specs.Prelude.{◌≡◌, ℕ, ◌==◌, Bool, false, List, [], ◌∷◌, ◌++◌, Option, Some, None, find, filter, Result, Ok, Err}
 use Rattle.std.specs.List.{AllZip}
 use Rattle.std.specs.List.Sorted.{IsNonDecreasingBy, IsPermutation}
-use Rattle.std.specs.Option.{option_map, option_or}
+use Rattle.std.specs.Option.{option_and_then, option_map, option_or}
 use Rattle.std.specs.Result.{result_ok}
 use Rattle.ele_due.specs.declared.key.Key.{Key}
+use Rattle.ele_holds.specs.Hold.{hold_of}
+use Rattle.ele_holds.specs.declared.hold.Hold.{Hold}
 use Rattle.ele_lists.specs.Last.{last_passing}
 use Rattle.ele_model.specs.declared.fate.Fate.{Fate}
+use Rattle.ele_model.specs.declared.fate.Fate.TheVariants.{Due}
 use Rattle.ele_model.specs.declared.refusal.Refusal.{Refusal}
 use Rattle.ele_model.specs.declared.rows.NameRow.{NameRow}
 use Rattle.ele_model.specs.declared.rows.Target.{Target}
@@ -62,11 +65,17 @@ abbrev pub FateIn : World → ℕ → ℕ → Option Fate → Type 0
 FateIn w file number None = is_held w file number ≡ false
 FateIn w file number (Some fate) = HasFate w file number fate
 
+-- of a version that is due: the mark that held it after its policy had let it go, if there is one
+abbrev pub hold_in : World → ℕ → ℕ → Option Fate → Option Hold
+hold_in w file number (Some (Due since cause)) = option_and_then (λ row. hold_of w row since) (find (is_version file number) w.versions)
+hold_in w file number fate = None
+
 -- what the world knows of the file's version n; and the moment of its removal, if it was removed
 pub record IsVersionStory (w : World) (file n : ℕ) (moment : Option ℕ) (row : VersionStory) : Type 0 where
   pub number : row.number ≡ n
   pub info : row.info ≡ option_map info_of (find (is_version file n) w.versions)
   pub fate : FateIn w file n row.fate
+  pub hold : row.hold ≡ hold_in w file n row.fate
   pub removed : row.removed ≡ moment
 
 -- of a removed version it is what was known just before the removal

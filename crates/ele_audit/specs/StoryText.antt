@@ -2,7 +2,8 @@
 use Rattle.std.specs.Prelude.{ℕ, ◌+◌, List, [], ◌∷◌, ◌++◌, codes, length, Option, Some, None, Result, Ok, Err}
 use Rattle.std.specs.Fmt.{decimal}
 use Rattle.std.specs.List.{flat_map}
-use Rattle.ele_model.specs.FateText.{fate_words}
+use Rattle.ele_holds.specs.declared.hold.Hold.{Hold}
+use Rattle.ele_model.specs.FateText.{fate_words, mark_word}
 use Rattle.ele_model.specs.declared.fate.Fate.{Fate}
 use Rattle.ele_model.specs.declared.refusal.Refusal.{Refusal}
 use Rattle.ele_model.specs.declared.rows.VersionInfo.{VersionInfo}
@@ -29,9 +30,14 @@ abbrev pub removed_words : Option ℕ → List (List ℕ)
 removed_words None = []
 removed_words (Some moment) = codes "removed" ∷ decimal moment ∷ []
 
+-- the words of the mark that held a version after its policy had let it go, none if no mark did
+abbrev pub hold_words : Option Hold → List (List ℕ)
+hold_words None = []
+hold_words (Some hold) = codes "held" ∷ hold.group ∷ mark_word hold.mark ∷ []
+
 -- the line of a version; a removed one has its removal, and then what had become of it
 abbrev pub version_story_line : VersionStory → List ℕ
-version_story_line row = line_text (codes "- version" ∷ decimal row.number ∷ info_words row.info ++ (removed_words row.removed ++ fate_or_dash row.fate))
+version_story_line row = line_text (codes "- version" ∷ decimal row.number ∷ info_words row.info ++ (removed_words row.removed ++ (hold_words row.hold ++ fate_or_dash row.fate)))
 
 -- the line of a name: from when until when it lived, and its path
 abbrev pub name_story_line : NameStory → List ℕ

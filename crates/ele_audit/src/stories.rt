@@ -2,17 +2,18 @@
 ghost use Rattle.std.specs.Prelude.{◌≡◌, ◌++◌, ◌∷◌, [], IfOk, List, filter};
 ghost use Rattle.std.specs.List.{AllZip, list_any};
 ghost use Rattle.ele_audit.specs.Removals.{removal_in, removals};
-ghost use Rattle.ele_audit.specs.Story.{AreVersions, IsHeldNow, IsStory, IsVersionStory, WasRemoved, is_removal_from};
+ghost use Rattle.ele_audit.specs.Story.{AreVersions, IsHeldNow, IsStory, IsVersionStory, WasRemoved, hold_in, is_removal_from};
 ghost use Rattle.ele_audit.specs.Rows.{removes_from};
 ghost use Rattle.ele_history.specs.Past.{world_of};
 ghost use Rattle.ele_model.specs.FileView.{is_version_of};
 
 use crate::seen::{Seen, seen_before, seen_of};
 use crate::story_file::file_told;
-use crate::story_info::info_in;
+use crate::story_info::{info_in, row_of};
 use crate::story_row::{Story, VersionStory};
 use ele_history::History;
-use ele_model::{Entry, Explain, Flat, FromFlat, Key, NoMemory, Refusal, Reply, VersionRow};
+use ele_holds::{Hold, hold_of};
+use ele_model::{Entry, Explain, Fate, Flat, FromFlat, Key, NoMemory, Refusal, Reply, VersionRow};
 use ele_moment::{FileId, Moment, VersionNo};
 use ele_path::Path;
 use ele_world::laws;
@@ -199,7 +200,8 @@ fn add_if_of<C: Explain>(
         return Ok(());
     }
     let world = core.flat()?;
-    rows.push(version_story(core, &world, file, key.number, Some(core.now())))?;
+    let removed = Some(core.now());
+    rows.push(version_story(core, &world, file, key.number, removed)?)?;
     Ok(())
 }
 
@@ -242,7 +244,7 @@ fn add_if_held<C: Explain>(
     if version.file != file {
         return Ok(());
     }
-    rows.push(version_story(core, world, version.file, version.number, None))?;
+    rows.push(version_story(core, world, version.file, version.number, None)?)?;
     Ok(())
 }
 
@@ -253,16 +255,37 @@ fn version_story<C: Explain>(
     file: FileId,
     number: VersionNo,
     removed: Option<Moment>,
-) -> VersionStory
+) -> Result<VersionStory, NoMemory>
     requires { world.now ≡ C.world core.now }
-    ensures { IsVersionStory (C.world core.now) file number removed result }
+    ensures { IfOk result (IsVersionStory (C.world core.now) file number removed) }
 {
     // For the proof: the world is well formed, so no content is too long.
     let _now = core.now();
-    VersionStory {
+    let fate = core.fate(file, number);
+    let hold = hold_in(world, file, number, &fate)?;
+    Ok(VersionStory {
         number,
         info: info_in(world, file, number),
-        fate: core.fate(file, number),
+        fate,
+        hold,
         removed,
+    })
+}
+
+// The mark that held a version after its policy had let it go, if it is due.
+fn hold_in(
+    world: &Flat,
+    file: FileId,
+    number: VersionNo,
+    fate: &Option<Fate>,
+) -> Result<Option<Hold>, NoMemory>
+    ensures { IfOk result (λ hold. hold ≡ hold_in world.entry.now file number fate.now) }
+{
+    let Some(Fate::Due { since, cause: _ }) = fate else {
+        return Ok(None);
+    };
+    match row_of(world.versions.as_slice(), file, number) {
+        Some(row) => hold_of(world, row, *since),
+        None => Ok(None),
     }
 }

@@ -20,8 +20,8 @@ pub(crate) fn info_in(world: &Flat, file: FileId, number: VersionNo) -> Option<V
     Some(info_of(row))
 }
 
-// The row of the file's version with that number.
-fn row_of(rows: &[VersionRow], file: FileId, number: VersionNo) -> Option<&VersionRow>
+/// Returns the row of the file's version with that number. None if it isn't held.
+pub(crate) fn row_of(rows: &[VersionRow], file: FileId, number: VersionNo) -> Option<&VersionRow>
     ensures { option_copied result ≡ find (is_version file number) rows.now }
 {
     rows.iter()

@@ -1,4 +1,5 @@
 //! The rows of the story of a file. A contract sees plain data.
+use ele_holds::Hold;
 use ele_model::{Fate, VersionInfo};
 use ele_moment::{FileId, Moment, Name, VersionNo};
 
@@ -10,6 +11,9 @@ pub struct VersionStory {
     pub info: Option<VersionInfo>,
     /// What becomes of it, and why. None if the version wasn't held.
     pub fate: Option<Fate>,
+    /// Of a version that is due: the mark that held it after its policy had let it go. None if no
+    /// mark did.
+    pub hold: Option<Hold>,
     /// When it was removed. None if it is held.
     pub removed: Option<Moment>,
 }
