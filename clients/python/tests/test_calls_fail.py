@@ -175,7 +175,9 @@ def codes_of_calls() -> dict[str, list[int]]:
     text = HEADER.read_text(encoding="utf-8")
     numbers, may_come = numbers_of(text), {NoMemory.number, Untold.number, *range(3, 60)}
     named = {name: {numbers[it] for it in call.own | call.section} for name, call in codes_of(text).items()}
-    return {name: sorted(found & may_come | {NoMemory.number}) for name, found in named.items()}
+    codes = {name: sorted(found & may_come | {NoMemory.number}) for name, found in named.items()}
+    # The package's names of these calls for what is short.
+    return {**codes, "read_short": codes["read_into"], "read_handle_short": codes["read_handle_into"]}
 
 
 class Faulty:

@@ -1,12 +1,16 @@
 //! Contents: what makes a version, and what reads one.
 
 use crate::names::version_of;
-use crate::store::parts;
+use crate::store::{parts, size_of};
 use crate::sys;
 use crate::{Error, Reader, Session, Store, Target};
+use std::mem::MaybeUninit;
+use std::slice;
 
 /// The longest content, in bytes.
 pub const LARGEST_CONTENT: usize = 1 << 20;
+// A content of at most so many bytes is read by one call, into a buffer that needs no memory.
+const SHORT: usize = 1 << 12;
 
 /// Contents.
 impl Store {
@@ -65,10 +69,22 @@ impl Store {
     /// [`Error::Forgotten`] if the version was removed: it never returns another version in its
     /// place.
     pub fn read<'a>(&self, target: impl Into<Target<'a>>) -> Result<Vec<u8>, Error> {
-        let (path, tag, number) = parts(target.into());
-        // SAFETY: see `call`.
-        let length = self.number(|e, length| unsafe { sys::elephant_read(e, path.as_ptr(), path.len(), tag, number, length) })?;
-        self.taken(length)
+        let target = target.into();
+        let (path, tag, number) = parts(target);
+        if self.has_history {
+            // SAFETY: see `call`.
+            let length =
+                self.number(|e, length| unsafe { sys::elephant_read(e, path.as_ptr(), path.len(), tag, number, length) })?;
+            return self.taken(length);
+        }
+        // SAFETY: see `straight`.
+        let found = self.straight(|e, into, room, length, copied| unsafe {
+            sys::elephant_read_into(e, path.as_ptr(), path.len(), tag, number, 0, into, room, length, copied)
+        });
+        match found {
+            Err(error @ Error::Forgotten { .. }) => Err(self.stat(target).err().unwrap_or(error)),
+            found => found,
+        }
     }
 
     /// Makes a new version of a file, with the content of the version of that number. Returns the
@@ -116,6 +132,33 @@ impl Store {
         self.copied(length, |e, into, copied| unsafe { sys::elephant_take(e, 0, into.as_mut_ptr(), into.len(), copied) })
     }
 
+    // Returns a content, by a call that copies it straight to `into`, as much as there is room, and says how long it is and how much
+    // it copied. If it is longer than the first buffer, the call is made again. It is one that only looks, which leaves no detail.
+    //
+    // The call in `made` is as in `call`, and `into` points to `room` bytes that nothing else has.
+    fn straight(&self, made: impl Fn(*mut sys::elephant, *mut u8, usize, &mut u64, &mut u64) -> i32) -> Result<Vec<u8>, Error> {
+        let copy = |into: &mut [MaybeUninit<u8>]| {
+            let (mut length, mut copied) = (0, 0);
+            match self.code(|e| made(e, into.as_mut_ptr().cast(), into.len(), &mut length, &mut copied)) {
+                sys::ELEPHANT_OK => Ok((size_of(length)?, size_of(copied)?)),
+                code => Err(Error::from_code(code, || None)),
+            }
+        };
+        let mut short = [MaybeUninit::uninit(); SHORT];
+        let (length, copied) = copy(&mut short)?;
+        let mut bytes = Vec::new();
+        bytes.try_reserve_exact(length).map_err(|_| Error::NoMemory)?;
+        if length > SHORT {
+            let (_, copied) = copy(&mut bytes.spare_capacity_mut()[..length])?;
+            // SAFETY: the call filled so many bytes of them.
+            unsafe { bytes.set_len(copied) };
+        } else {
+            // SAFETY: the call filled so many bytes of the buffer.
+            bytes.extend_from_slice(unsafe { slice::from_raw_parts(short.as_ptr().cast(), copied) });
+        }
+        Ok(bytes)
+    }
+
     pub(crate) fn write(&self, handle: u64, offset: u64, bytes: &[u8]) -> Result<(), Error> {
         // SAFETY: see `call`.
         self.call(|e| unsafe { sys::elephant_write(e, handle, offset, bytes.as_ptr(), bytes.len()) })
@@ -142,7 +185,13 @@ impl Store {
     }
 
     pub(crate) fn read_handle(&self, handle: u64) -> Result<Vec<u8>, Error> {
-        let length = self.length_of_handle(handle)?;
-        self.taken(length)
+        if self.has_history {
+            let length = self.length_of_handle(handle)?;
+            return self.taken(length);
+        }
+        // SAFETY: see `straight`.
+        self.straight(|e, into, room, length, copied| unsafe {
+            sys::elephant_read_handle_into(e, handle, 0, into, room, length, copied)
+        })
     }
 }

@@ -192,7 +192,8 @@ impl Store {
     }
 
     /// Returns the text of the last call's answer, also of a call that is no line, as the program
-    /// prints it: `ok file 1`.
+    /// prints it: `ok file 1`. Calls that only look don't count: in a store without a history these are
+    /// also [`read`](Store::read) and what a session or a reader reads.
     ///
     /// # Errors
     /// [`Error::Untold`].
@@ -220,7 +221,7 @@ impl Store {
         made: impl FnOnce(*mut sys::elephant, &mut [u8], &mut u64) -> i32,
     ) -> Result<Vec<u8>, Error> {
         let mut bytes = Vec::new();
-        let length = usize::try_from(length).map_err(|_| Error::NoMemory)?;
+        let length = size_of(length)?;
         bytes.try_reserve_exact(length).map_err(|_| Error::NoMemory)?;
         bytes.resize(length, 0);
         let copied = self.number(|e, copied| made(e, &mut bytes, copied))?;
@@ -255,6 +256,11 @@ impl Store {
         // SAFETY: see `call`.
         self.call(|e| unsafe { sys::elephant_tick(e, seconds) })
     }
+}
+
+// A count of bytes as one of memory.
+pub(crate) fn size_of(count: u64) -> Result<usize, Error> {
+    usize::try_from(count).map_err(|_| Error::NoMemory)
 }
 
 // A path, and its tag as C has it.

@@ -7,7 +7,7 @@ import io
 import operator
 import weakref
 from collections.abc import Callable, Iterator
-from ctypes import byref, c_uint64, c_void_p
+from ctypes import byref, c_size_t, c_ssize_t, c_uint32, c_uint64, c_void_p
 from typing import TYPE_CHECKING, Any, Optional, SupportsIndex
 
 from ._answers import Counts, Limits, Version
@@ -29,7 +29,7 @@ from ._errors import (
     Untold,
     error_of,
 )
-from ._library import FILE_NAME, NO_RESULT, NOW, CountsRow, KeyRow, LimitsRow, StatRow, VersionRow, library
+from ._library import AT, FILE_NAME, NO_RESULT, NOW, VERSION, CountsRow, KeyRow, LimitsRow, StatRow, VersionRow, library
 from ._names import MOST_NAME
 from ._policies import KeepAll, KeepOne, KeepSafe, Landmarks, Policy
 
@@ -42,6 +42,14 @@ _TOLD_MORE = (Forgotten.number, Full.number)
 _OF_EITHER = (NoEntry.number, NotDirectory.number, BadPath.number, BadName.number)
 _OF_FIRST, _OF_SECOND = (IsDirectory.number,), (Exists.number, IntoItself.number)
 _LEAST_ROOM, _COPIED_AT_ONCE = 1 << 12, 1 << 20
+SHORT = 1 << 12
+"""A content of at most so many bytes is read by one call, which keeps Python's lock meanwhile."""
+# Arguments in the form in which ctypes passes them on. To convert all of them at each call takes longer than a short read.
+_TAGS = tuple(c_uint32.from_param(tag) for tag in (NOW, AT, VERSION))
+_SIZES = tuple(map(c_size_t.from_param, range(256)))
+_ZERO = c_uint64.from_param(0)
+# Makes bytes that nobody has yet, for a call of the library to fill.
+_unfilled = ctypes.PYFUNCTYPE(ctypes.py_object, c_void_p, c_ssize_t)(("PyBytes_FromStringAndSize", ctypes.pythonapi))
 # The bytes of the length and the sum of a checkpoint.
 _AFTER_LIMITS = 12
 
@@ -98,6 +106,12 @@ class Core:
         self._stat_row: Any = StatRow()
         self._stat_row_at = ctypes.addressof(self._stat_row)
         self.name_room = ctypes.create_string_buffer(MOST_NAME)
+        # A history has each read as an event.
+        self._keeps_reads = history
+        self._short: Any = ctypes.create_string_buffer(SHORT)
+        self._self = c_void_p.from_param(self.handle)
+        into = c_void_p.from_param(self._short), c_size_t.from_param(SHORT)
+        self._into_short = (_ZERO, *into, byref(self._number), byref(self._second))
         if checkpoint is None:
             self._open(limits, history)
         else:
@@ -227,12 +241,43 @@ class Core:
 
     def read(self, subject: object, name: bytes, tag: int, number: int) -> bytes:
         """Returns the content of a version."""
-        length = self.look(self.library.elephant_read, subject, name, len(name), tag, number)
-        return self.kept_bytes(self.library.elephant_take, length)
+        if self._keeps_reads:
+            length = self.look(self.library.elephant_read, subject, name, len(name), tag, number)
+            return self.kept_bytes(self.library.elephant_take, length)
+        size = _SIZES[len(name)] if len(name) < len(_SIZES) else c_size_t.from_param(len(name))
+        which = self._self, name, size, _TAGS[tag], c_uint64.from_param(number) if number else _ZERO
+        code = self.library.elephant_read_short(*(which + self._into_short))
+        if code == Forgotten.number:
+            # A call that only looks leaves no detail.
+            code = self.library.elephant_stat(self.handle, name, len(name), tag, number, self._stat_row_at) or code
+        if code:
+            self.refuse(code, subject)
+        length = self._number.value
+        if length > SHORT:
+            return self._long_content(self.library.elephant_read_into, length, subject, name, len(name), tag, number)
+        content: bytes = self._short[:length]
+        return content
 
     def read_handle(self, subject: object, handle: int) -> bytes:
         """Returns what a handle reads."""
-        return self.kept_bytes(self.library.elephant_take, self.look(self.library.elephant_read_handle, subject, handle))
+        if self._keeps_reads:
+            return self.kept_bytes(self.library.elephant_take, self.look(self.library.elephant_read_handle, subject, handle))
+        code = self.library.elephant_read_handle_short(self._self, c_uint64.from_param(handle), *self._into_short)
+        if code:
+            self.refuse(code, subject)
+        length = self._number.value
+        if length > SHORT:
+            return self._long_content(self.library.elephant_read_handle_into, length, subject, handle)
+        content: bytes = self._short[:length]
+        return content
+
+    def _long_content(self, call: Call, length: int, subject: object, *which: object) -> bytes:
+        """Returns the content of that length, copied straight into the bytes."""
+        content: bytes = _unfilled(None, length)
+        code = call(self.handle, *which, 0, content, length, self.number_at, byref(self._second))
+        if code:
+            self.refuse(code, subject)
+        return content
 
     def stat(self, subject: object, name: bytes, tag: int = 0, number: int = 0) -> Any:
         """Returns the row of a path, which the next call of `stat` writes over."""

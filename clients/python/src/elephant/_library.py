@@ -8,6 +8,7 @@ import os
 from collections.abc import Iterator
 from ctypes import POINTER, Structure, c_char_p, c_int32, c_size_t, c_uint32, c_uint64, c_void_p
 from pathlib import Path
+from typing import Any
 
 from ._errors import ElephantError
 
@@ -76,13 +77,26 @@ def _places() -> Iterator[str]:
     yield FILE_NAME
 
 
+class Library(ctypes.CDLL):
+    """The loaded library. Other threads run during a call, except for the two of short reads: these keep Python's lock, since to give it
+    up and get it back takes longer than they do."""
+
+    def __init__(self, place: str) -> None:
+        super().__init__(place)
+        keeps_lock = ctypes.PyDLL(place, handle=self._handle)
+        # They have no signature: `Core` gives them arguments that are converted already.
+        self.elephant_read_short: Any = keeps_lock["elephant_read_into"]
+        self.elephant_read_handle_short: Any = keeps_lock["elephant_read_handle_into"]
+        self.elephant_read_short.restype = self.elephant_read_handle_short.restype = c_int32
+
+
 @functools.lru_cache(maxsize=None)
-def library() -> ctypes.CDLL:
+def library() -> Library:
     """Loads the library, once, and gives each call its signature. Raises ElephantError if it isn't found."""
     faults = []
     for place in _places():
         try:
-            loaded = ctypes.CDLL(place)
+            loaded = Library(place)
             break
         except OSError as fault:
             faults.append(str(fault))

@@ -22,8 +22,11 @@ MOST_NAMES = 32
 HIDDEN = ".elephant"
 """The name that a mounted folder keeps for itself at its top."""
 _OWN = re.compile(rb"[^!-~]|[/@#%]")
+# A path below the root whose names are spelled as they are.
+_PLAIN = re.compile(r"(?:/(?!\.\.?(?:/|\Z))[!-\"$&-.0-?A-~]{1,64})+")
 # The bytes of a spelled name.
 _FORM = re.compile(rb"[!-\"$-.0-?A-~]{1,64}")
+_SHOWN = re.compile(rb"[!-~]*")
 _SPELLED = re.compile(rb"%([0-9A-F]{2})")
 
 
@@ -39,6 +42,8 @@ def spell_name(name: str) -> bytes:
 
 @functools.lru_cache(maxsize=4096)
 def _spell_text(path: str) -> bytes:
+    if _PLAIN.fullmatch(path):
+        return path.encode("ascii")
     if not path.startswith("/"):
         raise BadPath(f"{path!r} does not begin with a slash")
     if path == "/":
@@ -56,7 +61,7 @@ def spell(path: Path) -> bytes:
     found = os.fspath(path)
     if isinstance(found, str):
         return _spell_text(found)
-    if any(byte not in range(0x21, 0x7F) for byte in found):
+    if not _SHOWN.fullmatch(found):
         raise BadPath(f"{found!r} has a byte that no path has")
     return bytes(found)
 

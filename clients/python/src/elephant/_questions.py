@@ -76,10 +76,10 @@ class Questions(Turns):
 
     def read(self, path: Path, *, at: Optional[MomentLike] = None, version: Optional[SupportsIndex] = None) -> bytes:
         """Returns the content of a version. Raises Forgotten if it was removed; it never returns another version in its place."""
-        name, (tag, number) = spell(path), self._tag(at, version)
+        name = spell(path)
+        tag, number = (NOW, 0) if at is None and version is None else self._tag(at, version)
         with self._lock:
-            core = self._begin()
-            return core.read(path, name, tag, number)
+            return self._begin().read(path, name, tag, number)
 
     def stat(
         self, path: Path, *, at: Optional[MomentLike] = None, version: Optional[SupportsIndex] = None
