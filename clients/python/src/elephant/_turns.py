@@ -15,6 +15,7 @@ from ._clock import Clocks, Watch, clocks_of_system
 from ._core import Core, limits_in
 from ._errors import ClockDoubt, Closed, ElephantError, HistoryFull, JournalDamaged, JournalError, JournalLost, ReadOnly
 from ._journal import Journal
+from ._memory import give_back, resident
 from ._moments import MomentLike, seconds_of
 from ._names import path_of
 from ._policies import LADDER
@@ -91,6 +92,7 @@ class Turns:
         opening.check()
         self._lock = threading.RLock()
         self._change = Change(self)
+        self._resident = resident()
         # A checkpoint is read once, and isn't kept.
         self._opening = opening._replace(checkpoint=None)
         self._watch, self._now, self._is_clock_kept = opening.watch(), 0, True
@@ -404,6 +406,7 @@ class Turns:
         core, self._core = self._core, None
         if core is not None:
             core.free()
+            give_back(self._resident)
         if self._journal is not None:
             self._journal.close()
 
