@@ -1,9 +1,18 @@
 -- Evidence, row after row.
-use Rattle.ele_evidence.proofs.Basics.{List, [], ap, append_assoc, append-nil, AllZip, at_drop_all, drop, drop_more, get_or, length, refl, subst, sym, ℕ, ◌++◌, ◌+◌, ◌<◌, ◌∙◌, ◌∷◌, ◌≡◌, ◌≤◌}
+use Rattle.ele_evidence.proofs.Basics.{Bool, List, [], ap, append_assoc, append-nil, AllZip, at_drop_all, codes, decimal, drop, drop_more, get_or, length, refl, subst, sym, ℕ, ◌++◌, ◌+◌, ◌<◌, ◌∙◌, ◌∷◌, ◌≡◌, ◌≤◌}
 use Rattle.ele_chain.proofs.Grows.{goes_on, last_goes_on}
 use Rattle.ele_chain.specs.Chain.{chained, hash_line, last_hash}
-use Rattle.ele_evidence.specs.EvidenceText.{IsRow}
+use Rattle.ele_evidence.specs.EvidenceText.{IsEvidence, IsRow, end_line, head_row}
+use Rattle.ele_model.specs.Bounds.{Bounds}
 use Rattle.ele_model.specs.declared.entry.Entry.{Entry}
+use Rattle.ele_model.specs.declared.reply.Reply.{Reply}
+use Rattle.ele_model.specs.declared.reply.Reply.TheVariants.{Now}
+use Rattle.ele_moment.proofs.Moments.{one_text}
+use Rattle.ele_output.specs.Line.{line_text}
+use Rattle.ele_printer.specs.HistoryText.{entry_line}
+use Rattle.ele_printer.specs.Printed.{IsReplyText}
+use Rattle.std.specs.Bool.{Decides}
+use Rattle.std.specs.Prelude.{IsTrue, ◌↔◌}
 use Rattle.ele_output.proofs.Known.{puts_as, puts_nil, puts_then}
 use Rattle.ele_output.specs.Outlet.{Outlet, Puts}
 
@@ -49,3 +58,33 @@ whole_text {a} {b} {c} {d} above bytes head line last rows none is line_is first
           ∙ (ap (λ (up : List ℕ). (bytes ++ hash_line (up ++ bytes)) ++ chained (hash_line (up ++ bytes)) rows) none
           ∙ (ap (λ (row : List ℕ). (row ++ hash_line row) ++ chained (hash_line row) rows) is
           ∙ append_assoc head (hash_line head) (chained (hash_line head) rows)))
+
+-- ---- one text
+
+one_reply : (reply : Reply) (s t : List ℕ) → IsReplyText reply s → IsReplyText reply t → s ≡ t
+one_reply (Now moment) s t a b =
+    a.2 ∙ ap (λ (stamp : List ℕ). line_text (codes "ok now" ∷ decimal moment ∷ stamp ∷ [])) (one_text a.0 b.0 moment a.1 b.1) ∙ sym b.2
+one_reply reply s t a b = a ∙ sym b
+
+one_row : (entry : Entry) (a b : List ℕ) → IsRow entry a → IsRow entry b → a ≡ b
+one_row entry a b x y = x.2 ∙ ap (λ (reply : List ℕ). entry_line entry ++ reply) (one_reply entry.reply x.0 y.0 x.1 y.1) ∙ sym y.2
+
+both_heads : (a b : List ℕ) (us vs : List (List ℕ)) → a ≡ b → us ≡ vs → a ∷ us ≡ b ∷ vs
+both_heads a b us vs e h = cc
+
+one_rows : (entries : List Entry) (us vs : List (List ℕ)) → AllZip IsRow entries us → AllZip IsRow entries vs → us ≡ vs
+one_rows [] [] [] x y = refl
+one_rows [] [] (b ∷ vs) x y = absurd y
+one_rows [] (a ∷ us) vs x y = absurd x
+one_rows (entry ∷ entries) [] vs x y = absurd x
+one_rows (entry ∷ entries) (a ∷ us) [] x y = absurd y
+one_rows (entry ∷ entries) (a ∷ us) (b ∷ vs) x y = both_heads a b us vs (one_row entry a b x.0 y.0) (one_rows entries us vs x.1 y.1)
+
+pub one_evidence : (limits : Bounds) (entries : List Entry) (s t : List ℕ) → IsEvidence limits entries s → IsEvidence limits entries t → s ≡ t
+one_evidence limits entries s t a b =
+    a.is ∙ ap (λ (rows : List (List ℕ)). chained [] (head_row limits ∷ rows) ++ end_line (length entries)) (one_rows entries a.rows b.rows a.are b.are) ∙ sym b.is
+
+-- a text that is the evidence, or not, by whether it is the same as the evidence
+pub tells : (limits : Bounds) (entries : List Entry) (evidence text : List ℕ) (same : Bool) → IsEvidence limits entries evidence → Decides same (evidence ≡ text) → IsTrue same ↔ IsEvidence limits entries text
+tells limits entries evidence text same is decides =
+    (λ yes. subst (λ (t : List ℕ). IsEvidence limits entries t) (decides.0 yes) is, λ there. decides.1 (one_evidence limits entries evidence text is there))

@@ -5,4 +5,4 @@
 mod row;
 mod text;
 
-pub use text::put_evidence;
+pub use text::{is_evidence, put_evidence};

@@ -1,5 +1,5 @@
 //! Prints the evidence of a history. A contract sees a printer as its outlet.
-ghost use Rattle.std.specs.Prelude.{◌≡◌, ◌++◌, IfOk, List, ℕ};
+ghost use Rattle.std.specs.Prelude.{◌≡◌, ◌↔◌, ◌++◌, IfOk, IsTrue, List, ℕ};
 ghost use Rattle.std.specs.List.{AllZip};
 ghost use Rattle.ele_chain.specs.Chain.{chained, hash_line};
 ghost use Rattle.ele_evidence.specs.EvidenceText.{IsEvidence, IsRow, head_row};
@@ -63,4 +63,33 @@ fn put_row<W: Write>(above: &HashLine, row: &[u8], printer: &mut Printer<'_, W>)
     printer.put(row);
     printer.put(line.bytes());
     line
+}
+
+/// Returns whether a text is the evidence of a history that began in the fresh world with these
+/// limits, and has these entries.
+///
+/// `NoMemory` if memory is refused.
+/// Cost: grows with the evidence, which it holds.
+pub fn is_evidence(
+    alloc: Global,
+    limits: &Limits,
+    entries: &[Entry],
+    text: &[u8],
+) -> Result<bool, NoMemory>
+    ensures { IfOk result (λ same. IsTrue same ↔ IsEvidence limits.now entries.now text.now) }
+{
+    Ok(evidence(alloc, limits, entries)?.as_slice() == text)
+}
+
+// The evidence of a history.
+fn evidence(alloc: Global, limits: &Limits, entries: &[Entry]) -> Result<Vec<u8>, NoMemory>
+    ensures { IfOk result (λ text. IsEvidence limits.now entries.now text.items) }
+{
+    let mut text = Vec::new(alloc);
+    let mut printer = Printer::new(&mut text);
+    put_evidence(alloc, limits, entries, &mut printer)?;
+    match printer.hand_over() {
+        Ok(()) => Ok(text),
+        Err(_) => Err(NoMemory),
+    }
 }
