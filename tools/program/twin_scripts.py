@@ -135,6 +135,7 @@ class Writer:
             (8, lambda: f"why {self.held()}"),
             (2, lambda: f"ahead {max(0, self.twin.now + rng.choice([-1, 0, 1, 2, 4, 9, 20]))}"),
             (2, lambda: rng.choice(["handles", "gone", "answers"])),
+            (3, lambda: f"story {path() if rng.random() < 0.5 else self.new_path()}"),
             (3, lambda: "usage"),
             (1, lambda: "groups"),
             (1, lambda: rng.choice(["history", "trim"]) if rng.random() < 0.2 else "due"),

@@ -11,6 +11,7 @@ from program.twin_rows import (
     KINDS, LAST_MOMENT, LONGEST, ROOT, SLOT, Bad, Block, Draft, File, Group, Handle, Mark, Name, No, Place, Removal, Slots, Tagged, Target,
     Version, check, content, due_under, ladder, level_of, listed, moments_of, or_dash, printed_line, refusal, rewritten, safe_numbers, some,
 )
+from program.twin_story import Taken, copied, known, story
 
 
 class Twin:
@@ -30,6 +31,7 @@ class Twin:
         self.printed: list[Block] = []
         self.folded = 0
         self.removals: list[Removal] = []
+        self.taken: list[Taken] = []
         self.since: dict[str, int] = {}
 
     # Where paths lead.
@@ -202,6 +204,25 @@ class Twin:
         by = min(it.number for it in row.versions if it.number > version.number and it.closed // width == version.closed // width)
         return f"by {by} level {level}"
 
+    def policy_moment(self, file: int, version: Version) -> int | None:
+        """The first moment at which the policy alone lets a version go."""
+        row, is_live = self.files[file], self.is_live(Target("file", file))
+        if version.ended is None:
+            return None
+        newer = [it.closed for it in row.versions if it.number > version.number]
+        hopes = [it for it in moments_of(row.policy, version.ended) if it <= LAST_MOMENT]
+        return min((it for it in hopes if due_under(row.policy, version.closed, version.ended, newer, is_live, it)), default=None)
+
+    def held_fate(self, file: int, version: Version) -> str:
+        """The fate of a version in a story: before it the mark that held a due version after its policy had let it go."""
+        fate, own = self.fate(file, version), self.policy_moment(file, version)
+        since = int(fate.split()[1]) if fate.startswith("due ") else None
+        if since is not None and own is not None and own < since:
+            for group, mark in self.marks_over(file, version):
+                if mark.until == since:
+                    return f"held {group.name} {mark} {fate}"
+        return fate
+
     # Questions, which the history doesn't have.
 
     def ask_why(self, tagged: str) -> Block:
@@ -240,12 +261,16 @@ class Twin:
         rows = [row for line, block in zip(self.entries, self.printed) for row in (f"- {line}", *block)]
         return [f"ok answers {self.folded} {len(self.entries)}", *rows]
 
+    def ask_story(self, path: str) -> Block:
+        held = {file: [(it.number, f"{known(it)} {self.held_fate(file, it)}") for it in row.versions] for file, row in self.files.items()}
+        return story(self.names, self.taken, held, path)
+
     def ask_history(self) -> Block:
         return [f"ok history {self.folded} {len(self.entries)}", *(f"- {it}" for it in self.entries)]
 
     def ask_trim(self) -> Block:
         count = len(self.entries)
-        self.entries, self.printed, self.removals, self.since = [], [], [], {}
+        self.entries, self.printed, self.removals, self.taken, self.since = [], [], [], [], {}
         self.folded += count
         return [f"ok trimmed {count}"]
 
@@ -547,8 +572,10 @@ class Twin:
             return "ok nothing"
         ripe, file, number = keys[0]
         row = self.files[file]
-        fate = self.fate(file, some(row.held(number), "Forgotten"))
+        version = some(row.held(number), "Forgotten")
+        fate, held = self.fate(file, version), self.held_fate(file, version)
         self.removals.append(Removal(self.now, file, number, self.path_of(Target("file", file)), fate))
+        self.taken.append(Taken(file, number, f"{known(version)} removed {self.now} {held}", copied(self.names)))
         row.versions = [it for it in row.versions if it.number != number]
         self.drop_idle(file)
         return f"ok removed {ripe} {file} {number}"

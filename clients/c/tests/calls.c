@@ -958,6 +958,8 @@ static void lines_are_answered_as_the_program_prints_them(void) {
     says(e, "hello", "bad 32 Syntax\n");
     says(e, "why /f", "ok why current\n");
     says(e, "ahead 1", "ok ahead 0\n");
+    says(e, "story /f", "ok story 1 2\n- version 1 0 - 0 current\n- name 0 - /f\n");
+    says(e, "story /g", "no 5 NoEntry\n");
     says(e, "", "");
     says(e, "history", "ok history 0 4\n- create /f\n- versions /f\n- tick 1\n- read /g\n");
     says(e, "trim", "ok trimmed 4\n");

@@ -54,7 +54,7 @@ static const char *const questions[] = {
     "list /",       "list /d",     "restorable", "due",         "usage",      "groups",     "ahead 2000000", "stat /",     "stat /d",
     "versions /f",  "versions /d/a", "stat /f",  "stat /d/a",   "read /f",    "read /d/a",  "read /f#1",     "read /f#2",  "read /f#3",
     "read /d/a#1",  "read /d/a#2", "read 1",     "read 2",      "read 3",     "read 4",     "why /f#1",      "why /f#2",   "versions /new",
-    "read /new",    "list /new",   "list /@1",   "versions /f@1",
+    "read /new",    "list /new",   "list /@1",   "versions /f@1", "story /f", "story /d/a", "story /new",
 };
 
 static void tell_all(struct told *told, elephant *e) {

@@ -546,6 +546,7 @@ class Auditing(Case):
         self.assertEqual(self.ask("why /f #1"), f"ok why removed {now} due {START + HOUR} by age 3600\n")
         self.assertEqual(self.ask(f"why /f@{START - 1}").partition(" ")[0], "no")
         self.assertIn(f"removed {told(now)}, due since {told(START + HOUR)}: 1 hour after its end", self.ask("history /f"))
+        self.assertIn(f" removed {now} due {START + HOUR} by age 3600\n", self.ask("story /f"))
         history = self.ask("history").splitlines()
         self.assertEqual([it for it in history if it in ("- create /f", "- policy /f safe:3600", "- clean")],
                          ["- create /f", "- policy /f safe:3600", "- clean"])

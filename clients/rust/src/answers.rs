@@ -2,6 +2,7 @@
 
 use crate::types::LAST_MOMENT;
 use crate::{Answered, Answers, Cause, Error, Fate, Gone, History, OpenHandle, Removal};
+use crate::{Hold, Mark, NameStory, Story, VersionSpan, VersionStory};
 use std::str::Split;
 
 // That something has not just the form that it has.
@@ -64,6 +65,83 @@ pub(crate) fn read_handles(answer: &str) -> Result<Vec<OpenHandle>, Error> {
         let path = words.path()?;
         words.end()?;
         Ok(OpenHandle { handle, file, version, since, path })
+    })
+}
+
+pub(crate) fn read_story(answer: &str) -> Result<Story, Error> {
+    let (mut words, others) = lines(answer, "ok story ")?;
+    let (file, count) = words.two()?;
+    let of_versions = others.iter().take_while(|row| row.starts_with("- version ")).count();
+    let (versions, names) = others.split_at(of_versions);
+    if others.len() as u64 != count {
+        return Err(OTHER);
+    }
+    let versions = rows(versions, versions.len() as u64, read_version_story)?;
+    let names = rows(names, names.len() as u64, |row| {
+        let mut words = Words::of(row.strip_prefix("name ").ok_or(OTHER)?);
+        let (birth, death, path) = (words.moment()?, words.unless("-", moment_of)?, words.path()?);
+        words.end()?;
+        Ok(NameStory { birth, death, path })
+    })?;
+    Ok(Story { file, versions, names })
+}
+
+fn read_version_story(row: &str) -> Result<VersionStory, Error> {
+    let mut words = Words::of(row.strip_prefix("version ").ok_or(OTHER)?);
+    let number = words.number()?;
+    let info = match words.unless("-", moment_of)? {
+        Some(closed) => Some(VersionSpan { closed, ended: words.unless("-", moment_of)?, length: words.number()? }),
+        None if (words.next()?, words.next()?) == ("-", "-") => None,
+        None => return Err(OTHER),
+    };
+    let rest: Vec<&str> = words.0.collect();
+    let (removed, rest) = match &rest[..] {
+        ["removed", moment, rest @ ..] => (Some(moment_of(moment)?), rest),
+        rest => (None, rest),
+    };
+    let (held, rest) = match rest {
+        ["held", group, mark, rest @ ..] => (Some(Hold { group: group_of(group)?, mark: mark_of(mark)? }), rest),
+        rest => (None, rest),
+    };
+    let fate = fate_of(rest)?;
+    if held.is_some() && !matches!(fate, Some(Fate::Due { .. })) {
+        return Err(OTHER);
+    }
+    Ok(VersionStory { number, info, removed, held, fate })
+}
+
+// A fate by its words, or None for a dash.
+fn fate_of(words: &[&str]) -> Result<Option<Fate>, Error> {
+    let level = |word: &str| number_of(word).map(Some);
+    Ok(Some(match words {
+        ["-"] => return Ok(None),
+        ["current"] => Fate::Current,
+        ["open"] => Fate::Open,
+        ["marked", group, mark] => Fate::Marked { group: group_of(group)?, mark: mark_of(mark)? },
+        ["kept"] => Fate::Kept { until: None, level: None },
+        ["kept", "level", at] => Fate::Kept { until: None, level: level(at)? },
+        ["kept", "until", until] => Fate::Kept { until: Some(moment_of(until)?), level: None },
+        ["kept", "until", until, "level", at] => Fate::Kept { until: Some(moment_of(until)?), level: level(at)? },
+        ["due", since, cause @ ..] => Fate::Due { since: moment_of(since)?, cause: cause_of(cause)? },
+        _ => return Err(OTHER),
+    }))
+}
+
+fn mark_of(word: &str) -> Result<Mark, Error> {
+    let (at, until) = word.split_once('/').map_or((word, None), |(at, until)| (at, Some(until)));
+    Ok(Mark { at: moment_of(at)?, until: until.map(moment_of).transpose()? })
+}
+
+fn group_of(word: &str) -> Result<String, Error> {
+    Some(word.to_owned()).filter(|it| is_name(it)).ok_or(OTHER)
+}
+
+fn cause_of(words: &[&str]) -> Result<Cause, Error> {
+    Ok(match words {
+        ["at", "once"] => Cause::AtOnce,
+        ["by", "age", seconds] => Cause::ByAge { seconds: number_of(seconds)? },
+        ["by", by, "level", level] => Cause::Displaced { level: number_of(level)?, by: number_of(by)? },
+        _ => return Err(OTHER),
     })
 }
 
@@ -171,13 +249,7 @@ impl<'a> Words<'a> {
         }
         let since = self.moment()?;
         let rest: Vec<&str> = self.0.by_ref().collect();
-        let cause = match rest[..] {
-            ["at", "once"] => Cause::AtOnce,
-            ["by", "age", seconds] => Cause::ByAge { seconds: number_of(seconds)? },
-            ["by", by, "level", level] => Cause::Displaced { level: number_of(level)?, by: number_of(by)? },
-            _ => return Err(OTHER),
-        };
-        Ok((since, cause))
+        Ok((since, cause_of(&rest)?))
     }
 }
 
@@ -191,17 +263,21 @@ fn moment_of(word: &str) -> Result<u64, Error> {
     number_of(word).and_then(|it| if it <= LAST_MOMENT { Ok(it) } else { Err(OTHER) })
 }
 
+fn is_name(word: &str) -> bool {
+    let is_of_name = |it: u8| it.is_ascii_graphic() && !matches!(it, b'/' | b'@' | b'#');
+    (1..=64).contains(&word.len()) && word.bytes().all(is_of_name)
+}
+
 // Whether each name of a path is one.
 fn is_path(word: &str) -> bool {
-    let is_of_name = |it: u8| it.is_ascii_graphic() && !matches!(it, b'@' | b'#');
-    let is_name = |name: &str| (1..=64).contains(&name.len()) && name.bytes().all(is_of_name);
     word.strip_prefix('/').map_or(false, |names| names.split('/').all(is_name))
 }
 
 #[cfg(test)]
 mod tests {
-    use super::{read_answers, read_gone, read_handles, read_history, read_removed, refused};
+    use super::{read_answers, read_gone, read_handles, read_history, read_removed, read_story, refused};
     use crate::{Answered, Answers, Cause, Error, Fate, Gone, History, OpenHandle, Removal};
+    use crate::{Hold, Mark, NameStory, Story, VersionSpan, VersionStory};
 
     const GONE: &str = "ok gone 7 4\n- 5 1 1 /f due 5 at once\n- 9 1 2 - due 5 by age 3\n\
                         - 30 2 2 /d/a%20b due 28 by 3 level 1\n- 31 9 1 - due 4 at once\n";
@@ -341,6 +417,76 @@ mod tests {
         assert_eq!(read_history("ok history 3 2\n- create /f\n- read /g\n"), Ok(History { folded: 3, lines }));
         for answer in ["ok history 3 1\n- create /f\n- read /g\n", "ok history 3 1\ncreate /f\n", "ok history 3\n"] {
             assert_eq!(read_history(answer), Err(Error::UnknownAnswer), "{answer:?}");
+        }
+    }
+
+    fn version_story(
+        number: u64,
+        info: Option<(u64, Option<u64>, u64)>,
+        removed: Option<u64>,
+        fate: Option<Fate>,
+    ) -> VersionStory {
+        let info = info.map(|(closed, ended, length)| VersionSpan { closed, ended, length });
+        VersionStory { number, info, removed, held: None, fate }
+    }
+
+    #[test]
+    fn each_fate_of_a_story_is_read() {
+        let mark = |at, until| Mark { at, until };
+        let group = "g".to_owned();
+        let held = Some(Hold { group: group.clone(), mark: mark(2, Some(30)) });
+        let due = Some(Fate::Due { since: 30, cause: Cause::ByAge { seconds: 3 } });
+        let versions = vec![
+            version_story(1, None, Some(20), None),
+            VersionStory { held, ..version_story(2, Some((5, Some(9), 2)), Some(40), due) },
+            version_story(3, Some((9, Some(12), 0)), None, Some(Fate::Marked { group, mark: mark(9, None) })),
+            version_story(4, Some((12, Some(13), 1)), None, Some(Fate::Open)),
+            version_story(5, Some((13, Some(14), 1)), None, Some(Fate::Kept { until: Some(60), level: Some(1) })),
+            version_story(6, Some((14, Some(15), 1)), None, Some(Fate::Kept { until: Some(60), level: None })),
+            version_story(7, Some((15, Some(16), 1)), None, Some(Fate::Kept { until: None, level: Some(2) })),
+            version_story(8, Some((16, Some(17), 1)), None, Some(Fate::Kept { until: None, level: None })),
+            version_story(9, Some((17, Some(18), 1)), None, Some(Fate::Due { since: 18, cause: Cause::AtOnce })),
+            version_story(10, Some((18, None, 1)), None, Some(Fate::Current)),
+        ];
+        let name = |birth, death, path: Option<&str>| NameStory { birth, death, path: path.map(str::to_owned) };
+        let names = vec![name(0, Some(20), Some("/a")), name(20, None, Some("/d/b%20c")), name(20, Some(30), None)];
+        let answer = "ok story 7 13\n- version 1 - - - removed 20 -\n- version 2 5 9 2 removed 40 held g 2/30 due 30 by age 3\n\
+                      - version 3 9 12 0 marked g 9\n- version 4 12 13 1 open\n- version 5 13 14 1 kept until 60 level 1\n\
+                      - version 6 14 15 1 kept until 60\n- version 7 15 16 1 kept level 2\n- version 8 16 17 1 kept\n\
+                      - version 9 17 18 1 due 18 at once\n- version 10 18 - 1 current\n\
+                      - name 0 20 /a\n- name 20 - /d/b%20c\n- name 20 30 -\n";
+        assert_eq!(read_story(answer), Ok(Story { file: 7, versions, names }));
+    }
+
+    #[test]
+    fn a_row_of_another_form_is_none_of_a_story() {
+        for row in [
+            "- version 1 5 9 2",
+            "- version 1 5 9 due 5 at once",
+            "- version 1 5 9 2 due",
+            "- version 1 5 9 2 due 5",
+            "- version 1 5 9 2 later",
+            "- version 1 - 9 2 current",
+            "- version 1 5 9 2 removed due 5 at once",
+            "- version 1 5 9 2 held g 5 current",
+            "- version 1 5 9 2 held g/h 5 due 5 at once",
+            "- version 1 5 9 2 marked g x",
+            "- version 1 5 9 2 kept until",
+            "- version 1 5 9 2 kept until 4 level",
+            "- version 1 5 9 2  current",
+            "- name 5 9",
+            "- name - 9 /f",
+            "- name 5 9 f",
+            "- name 5 9 /f -",
+            "- names 5 9 /f",
+            "name 5 9 /f",
+        ] {
+            assert_eq!(read_story(&format!("ok story 1 1\n{row}\n")), Err(Error::UnknownAnswer), "{row:?}");
+        }
+        for answer in
+            ["ok story 1 1\n", "ok story 1\n", "ok story 1 0 0\n", "ok story 1 1\n- name 0 - /f\n- version 1 0 - 0 current\n"]
+        {
+            assert_eq!(read_story(answer), Err(Error::UnknownAnswer), "{answer:?}");
         }
     }
 

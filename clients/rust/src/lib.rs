@@ -44,6 +44,7 @@ mod reader;
 mod retention;
 mod session;
 mod store;
+mod story;
 // It declares all that the header does, with the header's names; the header has the comments.
 #[allow(dead_code, missing_docs, non_camel_case_types)]
 mod sys;
@@ -56,6 +57,7 @@ pub use path_error::PathError;
 pub use reader::Reader;
 pub use session::Session;
 pub use store::{Options, Store};
+pub use story::{Hold, NameStory, Story, VersionSpan, VersionStory};
 pub use types::{
     at, moment, version, Cause, Counts, DeletedName, Entry, Fate, Group, Limits, Mark, Node, Pass, PassEnd, PathEntry, Policy,
     Removable, Rung, Stat, Target, Usage, Usages, Version, LAST_MOMENT,

@@ -1,6 +1,8 @@
 //! What an audit asks of a store with a history: the examples of docs/SCRIPT.md, by typed calls.
 
-use elephant::{version, Answered, Cause, Error, Fate, Limits, OpenHandle, Options, Policy, Removal, Rung, Store};
+use elephant::{
+    version, Answered, Cause, Error, Fate, Hold, Limits, Mark, NameStory, OpenHandle, Options, Policy, Removal, Rung, Store,
+};
 
 fn with_history() -> Store {
     Options::new().history(true).open().unwrap()
@@ -133,4 +135,45 @@ fn a_store_without_a_history_has_no_audit() {
     assert_eq!(store.answers(), Err(Error::NoHistory));
     assert_eq!(store.history(), Err(Error::NoHistory));
     assert_eq!(store.why(version("/f", 1)), Err(Error::Forgotten { last: None }));
+}
+
+#[test]
+fn a_story_has_removed_versions_the_mark_that_held_one_and_old_names() {
+    let store = with_history();
+    store.set_default("/", &Policy::KeepOne).unwrap();
+    store.save("/a", b"one").unwrap();
+    store.clock(5).unwrap();
+    store.save("/a", b"two").unwrap();
+    store.group_make("g").unwrap();
+    store.group_add("g", "/a").unwrap();
+    store.mark("g", 2, Some(30)).unwrap();
+    store.clean().unwrap();
+    store.clock(40).unwrap();
+    store.clean().unwrap();
+    store.rename("/a", "/b").unwrap();
+    let found = store.story("/a").unwrap();
+    let rows: Vec<_> = found.versions.iter().map(|it| (it.number, it.removed, it.info.and_then(|info| info.ended))).collect();
+    // Version 2 was current at 2, and version 1 only at 0.
+    assert_eq!((found.file, rows), (1, vec![(1, Some(5), Some(0)), (2, Some(40), Some(5)), (3, None, None)]));
+    let mark = Mark { at: 2, until: Some(30) };
+    assert_eq!(found.versions[0].held, None);
+    assert_eq!(found.versions[1].held, Some(Hold { group: "g".to_owned(), mark }));
+    assert_eq!(found.versions[1].fate, Some(Fate::Due { since: 30, cause: Cause::AtOnce }));
+    assert_eq!(found.versions[2].fate, Some(Fate::Current));
+    let name = |birth, death, path: &str| NameStory { birth, death, path: Some(path.to_owned()) };
+    assert_eq!(found.names, [name(0, Some(40), "/a"), name(40, None, "/b")]);
+    assert_eq!(store.story("/"), Err(Error::IsDirectory));
+    assert_eq!(store.story("/none"), Err(Error::NoEntry));
+    store.trim().unwrap();
+    assert_eq!(store.story("/b").unwrap().versions.len(), 1);
+}
+
+#[test]
+fn a_story_without_a_history_has_what_is_held() {
+    let store = Store::new().unwrap();
+    store.set_default("/", &Policy::KeepOne).unwrap();
+    store.save("/a", b"one").unwrap();
+    store.clean().unwrap();
+    let found = store.story("/a").unwrap();
+    assert_eq!(found.versions.iter().map(|it| it.number).collect::<Vec<_>>(), [2]);
 }

@@ -262,11 +262,12 @@ fn an_audit_that_is_refused_memory_is_an_error() {
     store.set_default("/", &Policy::KeepOne).unwrap();
     store.save("/f", b"one").unwrap();
     store.clean().unwrap();
-    let methods: [(&str, Method); 5] = [
+    let methods: [(&str, Method); 6] = [
         ("gone", |it| text(it.gone())),
         ("handles", |it| text(it.handles())),
         ("answers", |it| text(it.answers())),
         ("history", |it| text(it.history())),
+        ("story", |it| text(it.story("/f"))),
         ("why", |it| text(it.why(version("/f", 1)))),
     ];
     for (name, method) in methods {

@@ -1,5 +1,5 @@
 -- The codes and numbers of a result, as C gets them.
-use Rattle.std.specs.Prelude.{ℕ, ◌-◌, ◌^◌, length, Option, Some, None, Ok, Err}
+use Rattle.std.specs.Prelude.{ℕ, ◌+◌, ◌-◌, ◌^◌, length, Option, Some, None, Ok, Err}
 use Rattle.ele_embed.specs.Embedding.{Embedding, reply_of}
 use Rattle.ele_embed.specs.declared.checkpoint.CheckpointError.{CheckpointError}
 use Rattle.ele_embed.specs.declared.checkpoint.CheckpointError.TheVariants as checkpoint
@@ -15,7 +15,7 @@ use Rattle.ele_model.specs.declared.reply.Reply.{Reply}
 use Rattle.ele_model.specs.declared.reply.Reply.TheVariants.{Now, Directory, File, Handle, Version, Closed, Bytes, Rows, NameList, RestoreList, DueList, UsageList, GroupList, Refused}
 use Rattle.ele_printer.specs.LineFault.{fault_number}
 use Rattle.ele_runs.specs.declared.said.Said.{Said}
-use Rattle.ele_runs.specs.declared.said.Said.TheVariants.{Bad, Stopped, Passed, Trimmed, Why, Ahead, Gone, Handles}
+use Rattle.ele_runs.specs.declared.said.Said.TheVariants.{Bad, Stopped, Passed, Trimmed, Why, Ahead, Gone, Handles, Story}
 
 -- neither a moment nor a level
 abbrev pub never : ℕ
@@ -32,6 +32,7 @@ said_code (Stopped stop) reply = stop_number stop
 said_code (Passed (PassStopped stop removed)) reply = stop_number stop
 said_code (Why (Err refusal)) reply = refusal_number refusal
 said_code (Ahead (Err refusal)) reply = refusal_number refusal
+said_code (Story (Err refusal)) reply = refusal_number refusal
 said_code said reply = reply_code reply
 
 abbrev pub code_of : Embedding → ℕ
@@ -69,6 +70,7 @@ said_number (Trimmed count) reply = count
 said_number (Ahead (Ok keys)) reply = length keys
 said_number (Gone rows) reply = length rows.items
 said_number (Handles handles) reply = length handles.items
+said_number (Story (Ok story)) reply = length story.versions.items + length story.names.items
 said_number said reply = reply_number reply
 
 abbrev pub number_of : Embedding → ℕ

@@ -54,6 +54,7 @@ row command.RemoveDir = takes (codes "rmdir" ∷ []) (Path ∷ [])
 row command.Restorable = takes (codes "restorable" ∷ []) []
 row command.Save = takes (codes "save" ∷ []) (Path ∷ Bytes ∷ [])
 row command.Stat = takes (codes "stat" ∷ []) (Tagged ∷ [])
+row command.Story = asks (codes "story" ∷ []) (Path ∷ [])
 row command.Tick = takes (codes "tick" ∷ []) (Number ∷ [])
 row command.Truncate = takes (codes "truncate" ∷ []) (Handle ∷ Number ∷ [])
 row command.Trim = takes (codes "trim" ∷ []) []

@@ -44,6 +44,7 @@ pub enum Command {
     Restorable,
     Save,
     Stat,
+    Story,
     Tick,
     Truncate,
     Trim,
@@ -77,7 +78,7 @@ pub type Row = (
 
 /// A row for each command, in the order of `Command`: those with one first letter stand together, and
 /// of these the ones that come often first.
-pub static ROWS: [Row; 43] = [
+pub static ROWS: [Row; 44] = [
     (Command::Ahead, "ahead", "", &[Moment], Explaining),
     (Command::Answers, "answers", "", &[], Explaining),
     (Command::Abandon, "abandon", "", &[Handle], Always),
@@ -117,6 +118,7 @@ pub static ROWS: [Row; 43] = [
     (Command::Restorable, "restorable", "", &[], Always),
     (Command::Save, "save", "", &[Path, Bytes], Always),
     (Command::Stat, "stat", "", &[Tagged], Always),
+    (Command::Story, "story", "", &[Path], Explaining),
     (Command::Tick, "tick", "", &[Number], Always),
     (Command::Truncate, "truncate", "", &[Handle, Number], Always),
     (Command::Trim, "trim", "", &[], Always),
@@ -159,7 +161,7 @@ pub enum Topic {
 }
 
 /// For help, what each command is about and how it is answered, in the order of `Command`.
-pub static HELP: [(Topic, &str); 43] = [
+pub static HELP: [(Topic, &str); 44] = [
     (
         Topic::Why,
         "ok ahead K, then K lines - RIPE FILE NUMBER in order",
@@ -228,6 +230,10 @@ pub static HELP: [(Topic, &str); 43] = [
     (
         Topic::Questions,
         "ok file F version N opened O closed C ended E length L policy POL, or ok directory D default POL",
+    ),
+    (
+        Topic::Why,
+        "ok story F K, then K lines - version N C E L FATE by number, and - name FROM TO PATH in order",
     ),
     (Topic::Time, "ok now S TEXT"),
     (Topic::Contents, "ok done"),

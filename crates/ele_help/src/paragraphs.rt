@@ -2,7 +2,7 @@
 //! examples.
 
 /// What a command does, and an example or nothing, in the order of `Command`.
-pub(crate) static PARAGRAPHS: [(&str, &str); 43] = [
+pub(crate) static PARAGRAPHS: [(&str, &str); 44] = [
     // ahead
     (
         "Lists what 'due' would list at M if only the clock moves. It needs the option\n--explain. NotAhead if M is earlier than now.",
@@ -167,6 +167,11 @@ pub(crate) static PARAGRAPHS: [(&str, &str); 43] = [
     (
         "Prints when a version's draft was opened, when it closed and when it ended (-\nfor the current one), and the policy of its file; of a directory, the number\nand the default.",
         "\nExample:\n    stat /    ok directory 0 default safe:86400\n",
+    ),
+    // story
+    (
+        "Tells what is known of the file at P or, if P names none, of the file that P\nnamed last: a line for each version, and one for each name, live or deleted.\nBefore its fate a removed version has 'removed MOMENT', and one that a mark held\nlonger than its policy 'held G M'. It needs the option --explain. NoEntry if P\nnever named a file.",
+        "\nExample:\n    create /f    ok file 1\n    story /f     ok story 1 2\n                 - version 1 0 - 0 current\n                 - name 0 - /f\n",
     ),
     // tick
     (

@@ -33,6 +33,7 @@ audit_hint word =
     if bytes_eq word (codes "gone") then Explaining
     else if bytes_eq word (codes "handles") then Explaining
     else if bytes_eq word (codes "answers") then Explaining
+    else if bytes_eq word (codes "story") then Explaining
     else shell_hint word
 
 -- of a word that begins no command of the run

@@ -56,6 +56,8 @@ fn audit_hint(word: &[u8]) -> Hint
         Hint::Explaining
     } else if word == b"answers".as_slice() {
         Hint::Explaining
+    } else if word == b"story".as_slice() {
+        Hint::Explaining
     } else {
         shell_hint(word)
     }

@@ -42,5 +42,7 @@ answer_outcome last folded entries (said.Why (Ok found)) text is = fate_outcome 
 answer_outcome last folded entries (said.Why (Err why)) text is = rw is refl
 answer_outcome last folded entries (said.Ahead (Ok keys)) text is = rw is refl
 answer_outcome last folded entries (said.Ahead (Err why)) text is = rw is refl
+answer_outcome last folded entries (said.Story (Ok story)) text is = rw is refl
+answer_outcome last folded entries (said.Story (Err why)) text is = rw is refl
 answer_outcome last folded entries said.Answers text is = rw is.2 refl
 answer_outcome last folded entries told text is = rw is refl

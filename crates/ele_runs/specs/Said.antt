@@ -2,7 +2,9 @@
 use Rattle.std.specs.Prelude.{◌≡◌, ◌≢◌, ◌⊎◌, ℕ, ◌≤◌, ◌==◌, Bool, true, false, ◌&&◌, List, [], ◌∷◌, ◌++◌, decimal, Option, Some, None, Result, Err, if◌then◌else◌}
 use Rattle.ele_audit.specs.AuditText.{IsAnswersText, gone_text, handles_text, why_gone_text}
 use Rattle.ele_audit.specs.Open.{AreOpen}
-use Rattle.ele_audit.specs.Removals.{AreRemoved, HasRemovals, IsRemovedVersion, MayBeRemoved}
+use Rattle.ele_audit.specs.Removals.{AreRemoved, HasRemovals, IsRemovedVersion, MayBeRemoved, removals}
+use Rattle.ele_audit.specs.Story.{IsStory}
+use Rattle.ele_audit.specs.StoryText.{story_text}
 use Rattle.ele_audit.specs.declared.row.Removed.{Removed}
 use Rattle.ele_history.specs.Past.{Past, world_of}
 use Rattle.ele_model.specs.Change.{Time, after_change}
@@ -27,7 +29,7 @@ use Rattle.ele_run_options.specs.RunOptions.{front_of, heard}
 use Rattle.ele_run_options.specs.declared.options.RunOptions.{RunOptions}
 use Rattle.ele_runs.specs.Kept.{Kept, Plain, Recorded, Answered, Folds, HasEntries, Passes, Stays, StopsEvent, has_past, world_in}
 use Rattle.ele_runs.specs.declared.said.Said.{Said}
-use Rattle.ele_runs.specs.declared.said.Said.TheVariants.{Nothing, Bad, Stopped, Replied, Passed, History, Trimmed, Why, WhyRemoved, Ahead, Gone, Handles, Answers}
+use Rattle.ele_runs.specs.declared.said.Said.TheVariants.{Nothing, Bad, Stopped, Replied, Passed, History, Trimmed, Why, WhyRemoved, Ahead, Gone, Handles, Answers, Story}
 use Rattle.ele_script.specs.FirstFault.{IsFirstFault}
 use Rattle.ele_script.specs.Memory.{TakesMemory}
 use Rattle.ele_script.specs.Spells.{Asks}
@@ -59,13 +61,14 @@ abbrev pub TakesKeys : World → ℕ → Type 0
 TakesKeys w moment = (w.now ≤ moment) × (scan (after_change w (Time moment)) ≢ [])
 
 -- a question may take memory. With a history: `why` if a stored entry removed a version with that number, `gone` after a removal,
--- `handles` while one is open. With one or without: `ahead`
+-- `handles` while one is open. With one or without: `ahead`, and any `story`
 abbrev pub MayTake : Kept → Question → Type 0
 MayTake (Recorded past) (question.Why tagged) = MayBeRemoved past tagged.tag
 MayTake (Recorded past) (question.Ahead moment) = TakesKeys (world_of past) moment
 MayTake (Recorded past) question.Gone = HasRemovals past
 MayTake (Recorded past) question.Handles = (world_of past).handles ≢ []
 MayTake (Plain w last) (question.Ahead moment) = TakesKeys w moment
+MayTake kept (question.Story path) = Unit {0}
 MayTake kept asked = ⊥
 
 -- the answer to a question; a core alone answers only some
@@ -77,12 +80,15 @@ Says (Ahead told) kept (question.Ahead moment) = IsAhead (world_in kept) moment 
 Says (Gone rows) (Recorded past) question.Gone = AreRemoved past rows.items
 Says (Handles handles) (Recorded past) question.Handles = AreOpen past handles.items
 Says Answers (Recorded past) question.Answers = Unit {0}
+Says (Story told) (Recorded past) (question.Story path) = IsStory (removals past.base past.entries) (world_of past) path told
+Says (Story told) (Plain w last) (question.Story path) = IsStory [] w path told
 Says said kept asked = ⊥
 
 -- a question that only a history answers
 abbrev pub IsOfPast : Question → Type 0
 IsOfPast (question.Why tagged) = ⊥
 IsOfPast (question.Ahead moment) = ⊥
+IsOfPast (question.Story path) = ⊥
 IsOfPast asked = Unit {0}
 
 -- ---- lines
@@ -158,6 +164,7 @@ IsText last folded entries (Ahead told) text = text ≡ ahead_text told
 IsText last folded entries (Gone rows) text = text ≡ gone_text folded rows.items
 IsText last folded entries (Handles handles) text = text ≡ handles_text handles.items
 IsText last folded entries Answers text = IsAnswersText folded entries text
+IsText last folded entries (Story told) text = text ≡ story_text told
 
 -- the bytes before the answer
 abbrev pub said_front : RunOptions → ℕ → Said → List ℕ

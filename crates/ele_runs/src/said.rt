@@ -14,13 +14,13 @@ ghost use Rattle.ele_script.specs.declared.reading.Question.TheVariants as quest
 use crate::keep::Keep;
 use crate::tally::Outcome;
 use ele_audit::{
-    OpenHandle, Removed, open_handles, put_answers, put_gone, put_handles, put_why_gone, removed,
-    removed_version,
+    OpenHandle, Removed, Story, open_handles, put_answers, put_gone, put_handles, put_story,
+    put_why_gone, removed, removed_version, story, story_alone,
 };
 use ele_history::History;
 use ele_model::{Entry, Explain, Fate, FromFlat, KeyList, Moment, PassEnd, Refusal, Reply, Stop};
 use ele_output::Printer;
-use ele_path::TaggedPath;
+use ele_path::{Path, TaggedPath};
 use ele_printer::{
     put_ahead, put_answer, put_fault, put_history, put_in_front, put_pass, put_stop, put_trimmed,
     put_why,
@@ -59,6 +59,8 @@ pub enum Said {
     Handles(Vec<OpenHandle>),
     /// The history, with its replies.
     Answers,
+    /// The story of the file that it asks about, or why its path never named one.
+    Story(Result<Story, Refusal>),
 }
 
 /// Answers a line as it is kept, over whatever keeps the world.
@@ -134,6 +136,7 @@ pub(crate) fn explain<C: Explain + FromFlat>(
             Err(_) => Said::Stopped(Stop::NoMemory),
         },
         Question::Answers => Said::Answers,
+        Question::Story(path) => explain_story(alloc, path, history),
     }
 }
 
@@ -145,6 +148,7 @@ pub fn explain_alone<C: Explain>(question: &Question, core: &C) -> Said
     match question {
         Question::Why(tagged) => Said::Why(core.fate_at(tagged)),
         Question::Ahead(moment) => explain_ahead(*moment, core),
+        Question::Story(path) => explain_story_alone(path, core),
         Question::Gone | Question::Handles | Question::Answers => Said::Bad(LineFault::Syntax),
     }
 }
@@ -182,6 +186,26 @@ fn explain_forgotten<C: Explain + FromFlat>(
     }
 }
 
+// Returns what a history knows of a file.
+fn explain_story<C: Explain + FromFlat>(alloc: Global, path: &Path, history: &History<C>) -> Said
+    ensures { Explains (Recorded history.now) (question.Story path.now) result }
+{
+    match story(alloc, path, history) {
+        Ok(told) => Said::Story(told),
+        Err(_) => Said::Stopped(Stop::NoMemory),
+    }
+}
+
+// Returns what a core alone knows of a file.
+fn explain_story_alone<C: Explain>(path: &Path, core: &C) -> Said
+    ensures { Explains (Plain (C.world core.now) None) (question.Story path.now) result }
+{
+    match story_alone(path, core) {
+        Ok(told) => Said::Story(told),
+        Err(_) => Said::Stopped(Stop::NoMemory),
+    }
+}
+
 // Returns what will be due at the moment. It takes no memory if nothing is due by then.
 fn explain_ahead<C: Explain>(moment: Moment, core: &C) -> Said
     ensures { SaysAhead (C.world core.now) moment result }
@@ -203,7 +227,7 @@ impl Said {
         match self {
             Said::Bad(_) => Outcome::Bad,
             Said::Stopped(_) | Said::Passed(PassEnd::Stopped(_, _)) => Outcome::Stopped,
-            Said::Why(Err(_)) | Said::Ahead(Err(_)) => Outcome::Refused,
+            Said::Why(Err(_)) | Said::Ahead(Err(_)) | Said::Story(Err(_)) => Outcome::Refused,
             Said::Replied => match last {
                 Some(Reply::Refused(_)) => Outcome::Refused,
                 _ => Outcome::Well,
@@ -254,6 +278,7 @@ impl Said {
             Said::Gone(rows) => put_gone(folded, rows.as_slice(), printer),
             Said::Handles(handles) => put_handles(handles.as_slice(), printer),
             Said::Answers => put_answers(folded, entries, printer),
+            Said::Story(told) => put_story(told, printer),
         }
     }
 }

@@ -2,13 +2,13 @@
 use Rattle.std.specs.Prelude.{◌≡◌, ℕ, Bool, false, ◌≤◌, List, [], ◌∷◌, ◌++◌, length, true}
 use Rattle.ele_model.specs.declared.event.Event.{Event}
 use Rattle.ele_commands.specs.declared.command.Command.{Command}
-use Rattle.ele_commands.specs.declared.command.Command.TheVariants.{Ahead, Answers, Gone, Handles, Pass, History, Trim, Why}
+use Rattle.ele_commands.specs.declared.command.Command.TheVariants.{Ahead, Answers, Gone, Handles, Pass, History, Story, Trim, Why}
 use Rattle.ele_script.specs.declared.reading.Line.{Line}
 use Rattle.ele_script.specs.declared.reading.Line.TheVariants as asks
 use Rattle.ele_script.specs.declared.reading.Question.{Question}
 use Rattle.ele_script.specs.declared.reading.Question.TheVariants as question
 use Rattle.ele_commands.specs.Parts.{parts_of}
-use Rattle.ele_script.specs.Value.{Value, Moment, Number, SpellsValue, Tagged}
+use Rattle.ele_script.specs.Value.{Value, Moment, Number, Path, SpellsValue, Tagged}
 use Rattle.ele_commands.specs.Command.{command_words, is_allowed}
 use Rattle.ele_script.specs.Words.{longest_line, words_of, is_worded}
 
@@ -19,6 +19,7 @@ question_parts (question.Ahead moment) = (Ahead, Moment moment ∷ [])
 question_parts question.Gone = (Gone, [])
 question_parts question.Handles = (Handles, [])
 question_parts question.Answers = (Answers, [])
+question_parts (question.Story path) = (Story, Path path ∷ [])
 
 -- the command of what a line asks for, and the values of the words after it
 abbrev pub line_parts : Line → Command × List Value

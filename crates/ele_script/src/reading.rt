@@ -19,7 +19,7 @@ use arrayvec::ArrayVec;
 use ele_commands::Command;
 use ele_model::{Event, Handle, VersionNo};
 use ele_moment::Moment;
-use ele_path::{TaggedPath, one_meaning};
+use ele_path::{Path, TaggedPath, one_meaning};
 use ele_printer::LineFault;
 use std::alloc::Global;
 
@@ -51,6 +51,8 @@ pub enum Question {
     Handles,
     /// What the stored events were answered.
     Answers,
+    /// What is known of the file that this path names, or named last.
+    Story(Path),
 }
 
 /// The maximum number of bytes of a line, without its line feed.
@@ -75,7 +77,7 @@ pub fn read_line(alloc: Global, line: &[u8]) -> Result<Line, LineFault>
 }
 
 /// Reads a line, without its line feed. `explains` says whether the run explains: only then are
-/// `why` and `ahead` commands.
+/// questions commands.
 ///
 /// The error is the line's first fault: its length, its bytes and spaces, its command and number of
 /// words, then the first bad word from the left. `NoMemory` may replace any result if the command
@@ -292,6 +294,7 @@ fn line_behind_any(alloc: Global, command: Command, words: &[&[u8]]) -> Result<L
         Command::Gone => nothing(words).and(Ok(Line::Question(Question::Gone))),
         Command::Handles => nothing(words).and(Ok(Line::Question(Question::Handles))),
         Command::Answers => nothing(words).and(Ok(Line::Question(Question::Answers))),
+        Command::Story => path(alloc, words).map(|path| Line::Question(Question::Story(path))),
     }
 }
 

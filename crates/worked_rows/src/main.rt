@@ -197,7 +197,7 @@ const LIMITED: [(&str, LimitNumbers); 25] = [
 ];
 
 /// Scripts under the largest limits whose run explains.
-const EXPLAINED: [&str; 8] = [
+const EXPLAINED: [&str; 10] = [
     "explained_landmarks",
     "explained_policies",
     "explained_floors",
@@ -206,6 +206,8 @@ const EXPLAINED: [&str; 8] = [
     "explained_marks",
     "explained_end_of_time",
     "explained_forgotten_moments",
+    "explained_stories",
+    "explained_holds",
 ];
 
 /// What the script prints.

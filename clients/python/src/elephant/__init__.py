@@ -31,6 +31,7 @@ from ._answers import (
     Limits,
     Mark,
     Marked,
+    NameStory,
     Open,
     OpenHandle,
     Pass,
@@ -40,12 +41,13 @@ from ._answers import (
     Removal,
     Removed,
     RestoredTree,
+    Story,
     TreeStep,
     Usage,
     Version,
+    VersionStory,
     Waiting,
 )
-from ._audit import UnknownAnswer
 # Printed by tools/pages/surface --write: the errors, from _errors.py.
 from ._errors import (
     AlreadyMember,
@@ -105,6 +107,7 @@ from ._errors import (
 from ._files import File, TextFile
 from ._moments import LAST_MOMENT, Moment
 from ._policies import KeepAll, KeepOne, KeepSafe, Landmarks, Policy
+from ._reading import UnknownAnswer
 from ._sessions import Reader, Session
 from ._store import Store
 from ._times import Time, read_time
@@ -117,10 +120,10 @@ __all__ = [
     "DeletedName", "DirectoryStat", "Drafting", "Due", "ElephantError", "Entry", "Exists", "Fate", "File", "FileStat", "Forgotten", "Full",
     "Future", "Gone", "Group", "GroupExists", "HandlesOpen", "HasJournal", "History", "HistoryFull", "IntoItself", "IsDirectory", "IsRoot",
     "JournalDamaged", "JournalError", "JournalLocked", "JournalLost", "KeepAll", "KeepOne", "KeepSafe", "Kept", "Landmarks", "Limits",
-    "Mark", "Marked", "MarkExists", "MassRemoval", "Moment", "NoEntry", "NoGroup", "NoHandle", "NoHistory", "NoMark", "NoMemory",
-    "NotAhead", "NotDirectory", "NotEmpty", "NotMember", "NotPast", "NotRestorable", "NotWriter", "NoVersion", "Open", "OpenHandle", "Pass",
-    "PathEntry", "Policy", "read_time", "Reader", "ReadOnly", "Recovered", "Refused", "Removable", "Removal", "RemovalWaits", "Removed",
-    "RestoredTree", "Session", "Stop", "Store", "Syntax", "TextFile", "Time", "TooBig", "TreeStep", "UnknownAnswer", "Untold", "Usage",
-    "Version", "Waiting",
+    "Mark", "Marked", "MarkExists", "MassRemoval", "Moment", "NameStory", "NoEntry", "NoGroup", "NoHandle", "NoHistory", "NoMark",
+    "NoMemory", "NotAhead", "NotDirectory", "NotEmpty", "NotMember", "NotPast", "NotRestorable", "NotWriter", "NoVersion", "Open",
+    "OpenHandle", "Pass", "PathEntry", "Policy", "read_time", "Reader", "ReadOnly", "Recovered", "Refused", "Removable", "Removal",
+    "RemovalWaits", "Removed", "RestoredTree", "Session", "Stop", "Store", "Story", "Syntax", "TextFile", "Time", "TooBig", "TreeStep",
+    "UnknownAnswer", "Untold", "Usage", "Version", "VersionStory", "Waiting",
 ]
 # End of all names.

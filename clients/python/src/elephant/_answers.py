@@ -321,6 +321,40 @@ class OpenHandle(NamedTuple):
     spelled: Optional[bytes]
 
 
+class VersionStory(NamedTuple):
+    """What is known of a version: when it closed and ended (None: it has not ended), its length, and what becomes of it.
+
+    `removed` is when a stored event removed it (None: it is held); the rest is then what was known just before. `held` is the mark that held
+    a due version after its policy had let it go (None: no mark did).
+    """
+
+    number: int
+    closed: Optional[Moment]
+    ended: Optional[Moment]
+    length: Optional[int]
+    fate: Optional[Fate]
+    removed: Optional[Moment] = None
+    held: Optional[Marked] = None
+
+
+class NameStory(NamedTuple):
+    """A name that a file has or had, from its birth until its death (None: it lives), and how the store spells it. A directory without a
+    name has its last one in it; `path` is None if no names lead there."""
+
+    path: Optional[str]
+    birth: Moment
+    death: Optional[Moment]
+    spelled: Optional[bytes]
+
+
+class Story(NamedTuple):
+    """The number of a file, its versions by number, and its names in order of making."""
+
+    file: int
+    versions: tuple[VersionStory, ...]
+    names: tuple[NameStory, ...]
+
+
 class Answered(NamedTuple):
     """A stored event: its line, and its answer as `Store.line` returns it, with a line feed at the end of each line."""
 

@@ -25,6 +25,7 @@ from ._answers import (
     OpenHandle,
     PathEntry,
     Removable,
+    Story,
     Usage,
     Version,
 )
@@ -34,6 +35,7 @@ from ._errors import Forgotten, NoHistory
 from ._library import AT, NOW, VERSION, GroupRow, MarkRow, NameRow, UsageRow, WhyRow
 from ._moments import NEVER, Moment, MomentLike, moment_or_none
 from ._names import Path, name_of, spell
+from ._story import read_story
 from ._turns import Turns
 from ._walk import walk
 
@@ -222,6 +224,13 @@ class Questions(Turns):
     def handles(self) -> OpenHandles:
         """Returns the open handles, by number. The store needs `history=True`."""
         return read_handles(self._audited(b"handles"))
+
+    def story(self, path: Path) -> Story:
+        """Returns what is known of the file that the path names, or if it names none, named last: its versions and its names. Only a store
+        with `history=True` knows the versions that were removed, and a file that was dropped."""
+        line = b"story " + spell(path)
+        with self._lock:
+            return read_story(self._begin().line(line))
 
     def _audited(self, line: bytes) -> bytes:
         """Returns the answer to a line of a store with a history."""

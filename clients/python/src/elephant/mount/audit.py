@@ -25,6 +25,10 @@ class Audit:
         self._found: Optional[Store] = None
         self._seen: tuple[object, ...] = ()
 
+    def answers(self, word: str) -> bool:
+        """Whether the store with the history answers a line. Without one the mount's own tells a story, of what is held."""
+        return word in LINES or (word == "story" and self.is_kept)
+
     def prepare(self) -> None:
         """Runs the journal again, if a question needs that. Call it without the lock of the requests, which go on meanwhile."""
         if self.is_kept:

@@ -19,7 +19,7 @@ from zlib import crc32
 
 from .. import BadName, BadTime, ClockDoubt, ElephantError, Refused
 from ..keeping import AT, NoSpace, require_shown, told_time
-from .audit import LINES as AUDIT, Audit
+from .audit import Audit
 from .log import local
 from .marks import Marks
 from .names import name_in
@@ -40,7 +40,7 @@ MOST_FOLDER = 100
 # Printed by tools/pages/surface --write: the lines, from ele_commands/src/command.rt and ele_model/specs/NothingChanges.antt.
 _ASK = frozenset((
     "due", "groups", "list", "read", "restorable", "stat", "usage", "versions", "history", "trim", "ahead", "answers", "gone", "handles",
-    "why",
+    "story", "why",
 ))
 _SHORT = frozenset(("clean", "default", "group", "mark", "pass", "policy", "unmark"))
 # End of the lines.
@@ -82,7 +82,7 @@ class Lines:
             return self.more[line](), []
         try:
             words = [spelled_path(it) for it in words_of(line)]
-            if words[0] in AUDIT:
+            if self.audit.answers(words[0]):
                 self.audit.prepare()
         except ValueError as fault:
             return self._refusal(fault), []
@@ -142,7 +142,7 @@ class Lines:
         number = version_in([f"#{words[2].removeprefix('#')}"]) if word == "why" and len(words) == 3 else None
         if number is not None:
             words = [word, f"{words[1]}#{number}"]
-        answer = self.audit.line(" ".join(words)) if word in AUDIT else self._line(words)
+        answer = self.audit.line(" ".join(words)) if self.audit.answers(word) else self._line(words)
         if word == "why" and answer.startswith("no 13 "):
             return self._why_removed(words[1], answer)
         return answer + "".join(f"- {it}\n" for it in reasons(words)) if answer.startswith("bad ") else answer
