@@ -4,6 +4,7 @@ A drawing is an SVG document. Its moments stand from 150 to 896 pixels from the 
 """
 
 import datetime
+from collections import Counter
 from collections.abc import Callable, Iterator, Sequence
 from typing import NamedTuple
 
@@ -23,7 +24,7 @@ MONTHS = [
 ]
 GRID, THIN = "#bbb' stroke-width='0.5", "#000' stroke-width='0.6"
 DOTTED, DASHED = f"{THIN}' stroke-dasharray='1.5 2.5", "#000' stroke-width='1.2' stroke-dasharray='6 3"
-TICK = "#14375a' stroke-width='1"
+BAR = "#3f7fbf' stroke-width='3"
 CURVES = [
     "#14375a' stroke-width='1.8", "#d35400' stroke-width='1.8' stroke-dasharray='9 3", "#3f7fbf' stroke-width='1.8' stroke-dasharray='4 2",
     "#7d3c98' stroke-width='1.8' stroke-dasharray='1.5 2",
@@ -34,7 +35,11 @@ HEAD = """<?xml version='1.0' encoding='UTF-8'?>
 <!DOCTYPE svg PUBLIC '-//W3C//DTD SVG 1.1//EN' 'http://www.w3.org/Graphics/SVG/1.1/DTD/svg11.dtd'>
 <svg xmlns='http://www.w3.org/2000/svg' version='1.1' font-family='sans-serif' width='960' height='{height}'>
 <title>{title}</title>
-<style>text{{paint-order:stroke;stroke:#fff;stroke-width:5px;stroke-linejoin:round}}</style>
+<style>text{{paint-order:stroke;stroke:#fff;stroke-width:5px;stroke-linejoin:round}}
+@media (prefers-color-scheme:dark){{text{{fill:#e6e6e6;stroke:#1b1e23}}[fill='#fff']{{fill:#1b1e23}}[fill='#000']{{fill:#fff}}\
+[fill='#14375a']{{fill:#8fc1f0}}
+[stroke='#000']{{stroke:#ccc}}[stroke='#bbb']{{stroke:#4a4f57}}[stroke='#555']{{stroke:#999}}[stroke='#14375a']{{stroke:#8fc1f0}}\
+[stroke='#7d3c98']{{stroke:#c39bd3}}[stroke='#d35400']{{stroke:#f0955a}}}}</style>
 <defs><pattern id='hatch' width='6' height='6' patternUnits='userSpaceOnUse'>\
 <path d='M0,6 6,0' stroke='#555' stroke-width='0.8'/></pattern></defs>
 <rect width='960' height='{height}' fill='#fff'/>
@@ -204,6 +209,24 @@ def labels(page: Page, asked: Sequence[int]) -> str:
     return "".join(found)
 
 
+def note(x: int, y: int, said: str) -> str:
+    """Returns a text beside a line: left of it, if there is no room on its right."""
+    return words(x + 4, y, 9, "start", said) if x < 800 else words(x - 4, y, 9, "end", said)
+
+
+def kept_notes(page: Page, place: int, plan: Plan, asked: Sequence[int]) -> str:
+    """Returns how many versions stay under a policy, beside the moments that are asked about."""
+    return "".join(note(page.x(at), page.top + 10 + 11 * place, f"{len(plan.stay(at))} stay") for at in asked)
+
+
+def newest(page: Page, versions: Sequence[Version]) -> str:
+    """Returns where the last version closed, unless the drawing ends there."""
+    if not versions or versions[-1].closed >= page.last:
+        return ""
+    x = page.x(versions[-1].closed)
+    return line((x, page.top), (x, page.top + 240), DOTTED) + note(x, page.top + 232, "no newer version")
+
+
 def frame(top: int, said: str) -> str:
     """Returns what a band or a strip has at its left, and its frame."""
     return words(140, top + 11, 8, "end", said) + rect(150, top, 746, 16, PAPER)
@@ -273,43 +296,67 @@ def rows(title: str, plan: Plan, asked: Sequence[int]) -> str:
     stay = "".join(square(page, page.x(at), page.y(number), STAYS) for at in asked for number in plan.stay(at))
     heading = f"<text x='20' y='37' font-size='11'>{count} versions under {plan.name()}</text>\n<g font-size='10'>\n{legend}</g>\n"
     drawn = ties(page, plan.versions) + asked_lines(page, asked) + "".join(version(page, it) for it in plan.versions) + stay
+    drawn += kept_notes(page, 0, plan, asked)
     return head(page, title) + heading + foot(page) + bands(page, plan.rungs()) + drawn + labels(page, asked) + "</svg>\n"
 
 
 def strip(page: Page, level: int, said: str, versions: Sequence[Version]) -> str:
-    """Returns the strip of a level: a tick at each place where a version closed that passes it."""
+    """Returns the strip of a level: a bar for each column in which versions closed that pass it, as high as they are many."""
     top = page.top + 254 + 22 * level
-    places = dict.fromkeys(page.x(it.closed) for it in versions if it.passes(level))
-    return frame(top, said) + "".join(line((x, top), (x, top + 16), TICK) for x in places)
+    counts = Counter((page.x(it.closed) - 150) // 4 for it in versions if it.passes(level))
+    most = max(counts.values(), default=1)
+    bars = ((152 + 4 * column, 1 + counts[column] * 15 // most) for column in sorted(counts))
+    return frame(top, said) + "".join(line((x, top + 16), (x, top + 16 - height), BAR) for x, height in bars)
 
 
-def summary(title: str, plans: Sequence[Plan], asked: Sequence[int]) -> str:
-    """Returns a drawing of curves and strips."""
+def in_bytes(amount: int) -> str:
+    """Returns bytes in the largest unit of which they are a multiple."""
+    units = [(10**12, "TB"), (10**9, "GB"), (10**6, "MB"), (1000, "kB")] if amount else []
+    size, name = next((it for it in units if amount % it[0] == 0), (1, "B"))
+    return f"{amount // size} {name}"
+
+
+def axis(page: Page, highest: int, sized: bool) -> str:
+    """Returns the axis: what it counts, what the bars of strips mean, and a line at each multiple of 1, 2 or 5 times a power of ten."""
+    scale = next(it for it in (10**power for power in range(20)) if highest // it <= 25)
+    tenth = highest // scale
+    step = scale * (1 if tenth <= 5 else 2 if tenth <= 10 else 5)
+    found = [
+        words(150, page.top - 4, 9, "start", "bytes that stay" if sized else "versions that stay"),
+        words(150, page.top + 250, 8, "start", "bars: how many versions closed then that a level lets stay"),
+    ]
+    for amount in range(0, min(highest // step, 9) * step + 1, step):
+        y = page.top + 240 - amount * 240 // highest
+        found += [line((150, y), (896, y), GRID), words(144, y + 3, 9, "end", in_bytes(amount) if sized else str(amount))]
+    return "".join(found)
+
+
+def summary(title: str, plans: Sequence[Plan], asked: Sequence[int], sizes: Sequence[int] | None) -> str:
+    """Returns a drawing of curves and strips. The curves are of bytes, if versions have sizes."""
     versions, rungs = plans[0].versions, plans[0].rungs() if len(plans) == 1 else []
     top = 66 + 16 * len(plans)
     first, last = versions[0].closed if versions else 0, max(reach(it, asked) for it in plans)
     page = Page(first, last, top, top + 254 + 22 * (len(rungs) + 1), 0, min(len(asked), 3))
     moments = [first + (last - first) * column // (COLUMNS - 1) for column in range(COLUMNS)]
-    counts = [[len(it.stay(moment)) for moment in moments] for it in plans]
-    highest = max(1, *(count for of in counts for count in of))
-    found = [head(page, title), f"<text x='20' y='37' font-size='11'>{len(versions)} versions, and how many stay over time</text>\n"]
+    kept = [[it.stay(moment) for moment in moments] for it in plans]
+    amounts = [[len(them) if sizes is None else sum(sizes[it - 1] for it in them) for them in of] for of in kept]
+    highest = max(1, *(amount for of in amounts for amount in of))
+    found = [head(page, title), f"<text x='20' y='37' font-size='11'>{len(versions)} versions, and what stays over time</text>\n"]
     for place, plan in enumerate(plans):
         y = 50 + 16 * place
         found += [line((20, y), (54, y), CURVES[place % 4]), f"<text x='58' y='{y + 4}' font-size='11'> {plan.name()}</text>\n"]
-    found.append(foot(page))
-    for count in (highest, highest // 2, 0):
-        y = top + 240 - count * 240 // highest
-        found += [line((150, y), (896, y), GRID), words(144, y + 3, 9, "end", str(count))]
-    found.append(strip(page, 0, "all versions, by closing", versions))
+    found += [foot(page), axis(page, highest, sizes is not None), strip(page, 0, "all versions, by closing", versions)]
     found += [strip(page, level, level_words(rung), versions) for level, rung in enumerate(rungs, 1)]
     found.append(asked_lines(page, asked))
-    for place, of in enumerate(counts):
-        points = "".join(f"{page.x(moment)},{top + 240 - count * 240 // highest} " for moment, count in zip(moments, of))
+    for place, of in enumerate(amounts):
+        points = "".join(f"{page.x(moment)},{top + 240 - amount * 240 // highest} " for moment, amount in zip(moments, of))
         found.append(f"<polyline fill='none' stroke='{CURVES[place % 4]}' points='{points}'/>\n")
+    found.append(newest(page, versions))
+    found += [kept_notes(page, place, plan, asked) for place, plan in enumerate(plans)]
     return "".join([*found, labels(page, asked), "</svg>\n"])
 
 
-def drawing(title: str, plans: Sequence[Plan], asked: Sequence[int]) -> str:
+def drawing(title: str, plans: Sequence[Plan], asked: Sequence[int], sizes: Sequence[int] | None = None) -> str:
     """Returns the drawing of some policies."""
     is_single = len(plans) == 1 and len(plans[0].versions) <= 200
-    return rows(title, plans[0], asked) if is_single else summary(title, plans, asked)
+    return rows(title, plans[0], asked) if is_single else summary(title, plans, asked, sizes)

@@ -3,6 +3,7 @@ use Rattle.std.proofs.Common.{◌≡◌, ℕ, zero, suc, ◌+◌, ◌-◌, ◌*�
 use Rattle.std.proofs.Math.Nat.{mul-div-le}
 use Rattle.std.proofs.lemmas.List.{drop_more}
 use Rattle.std.specs.List.{flat_map, fold, range_with_len}
+use Rattle.std.specs.Prelude.{max}
 
 range_more : (f : ℕ → ℕ) (a n : ℕ) → map f (range_with_len a n) ++ f (a + n) ∷ [] ≡ map f (range_with_len a (suc n))
 range_more f a zero =
@@ -32,3 +33,19 @@ pub within_span : (span column : ℕ) → column < 187 → span * column / 186 �
 within_span span column lt =
     let most = mul-div-le (span * column) 186 in
     grind (arith, lt, most)
+
+-- at a number of a range, it is taken in
+pub fold_range : {B : Type 0} (f : B → ℕ → B) (b : B) (k n : ℕ) → k < n → fold f b (range_with_len k (n - k)) ≡ fold f (f b k) (range_with_len (k + 1) (n - (k + 1)))
+fold_range f b k n lt =
+    let e : n - k ≡ suc (n - (k + 1)) = omega (arith, lt) in
+    ap (λ (m : ℕ). fold f b (range_with_len k m)) e
+
+-- behind the last number, none is
+pub fold_none : {B : Type 0} (f : B → ℕ → B) (b : B) (k n : ℕ) → n ≤ k → fold f b (range_with_len k (n - k)) ≡ b
+fold_none f b k n le =
+    let e : n - k ≡ 0 = omega (arith, le) in
+    ap (λ (m : ℕ). fold f b (range_with_len k m)) e
+
+-- the larger of a number that is one at least and another is too
+pub some_max : (a b : ℕ) → 0 < a → 0 < max a b
+some_max a b some = omega (arith, some)

@@ -1,9 +1,11 @@
 -- What stands round the curves and the strips: the title, the policies, the ticks, the axis, and the frames of strips.
-use Rattle.std.specs.List.{flat_map}
-use Rattle.std.specs.Prelude.{List, [], codes, decimal, if◌then◌else◌, length, min, nat_lt, ℕ, ◌%◌, ◌*◌, ◌++◌, ◌+◌, ◌-◌, ◌/◌, ◌<◌, ◌∷◌}
+use Rattle.std.specs.List.{flat_map, range_with_len}
+use Rattle.std.specs.Prelude.{List, [], codes, decimal, if◌then◌else◌, length, min, nat_le, nat_lt, suc, zero, ℕ, ◌%◌, ◌*◌, ◌++◌, ◌+◌, ◌-◌, ◌/◌, ◌<◌, ◌∷◌}
 use Rattle.ele_forecast_text.specs.Plan.{versions_of}
 use Rattle.ele_forecast_text.specs.declared.plan.Plan.{Plan}
 use Rattle.ele_svg.specs.Curve.{curve_y}
+use Rattle.ele_svg.specs.declared.measure.Measure.{Measure}
+use Rattle.ele_svg.specs.declared.measure.Measure.TheVariants.{Versions, Bytes}
 use Rattle.ele_svg.specs.Frame.{foot_drawn}
 use Rattle.ele_svg_marks.specs.Head.{head_drawn, policy_name}
 use Rattle.ele_svg_marks.specs.Mark.{mark_text}
@@ -11,7 +13,7 @@ use Rattle.ele_svg_marks.specs.Walk.{walked}
 use Rattle.ele_svg_marks.specs.declared.mark.Fill.TheVariants as fill
 use Rattle.ele_svg_marks.specs.declared.mark.Mark.{Mark}
 use Rattle.ele_svg_marks.specs.declared.mark.Mark.TheVariants.{Line, Rect, Text}
-use Rattle.ele_svg_marks.specs.declared.mark.Side.TheVariants.{Before}
+use Rattle.ele_svg_marks.specs.declared.mark.Side.TheVariants.{Before, Behind}
 use Rattle.ele_svg_marks.specs.declared.mark.Stroke.{Stroke}
 use Rattle.ele_svg_marks.specs.declared.mark.Stroke.TheVariants as stroke
 use Rattle.ele_svg_marks.specs.declared.mark.Words.{Words}
@@ -38,16 +40,45 @@ place_after place plan = place + 1
 abbrev pub keys_drawn : List Plan → List ℕ
 keys_drawn plans = walked key_drawn place_after 0 plans
 
--- the axis: the most, half of it, and none
-abbrev pub axis_marks : ℕ → ℕ → List Mark
-axis_marks y count = Line (150, y) (896, y) stroke.Grid ∷ Text 144 (y + 3) 9 Before (words.Count count) ∷ []
+-- how far apart the lines of the axis are: 1, 2 or 5, or ten times what they are of a tenth, so that up to seven lines are drawn
+abbrev pub step_in : ℕ → ℕ → ℕ
+step_in zero highest = 1
+step_in (suc tries) highest =
+    if nat_le highest 5 then 1 else (if nat_le highest 10 then 2 else (if nat_le highest 25 then 5 else 10 * step_in tries (highest / 10)))
 
-abbrev pub axis_line : Page → ℕ → ℕ → List Mark
-axis_line page highest count = axis_marks (curve_y page highest count) count
+abbrev pub axis_step : ℕ → ℕ
+axis_step highest = step_in 20 highest
 
-abbrev pub axis_drawn : Page → ℕ → List ℕ
-axis_drawn page highest =
-    flat_map mark_text (axis_line page highest highest) ++ (flat_map mark_text (axis_line page highest (highest / 2)) ++ flat_map mark_text (axis_line page highest 0))
+-- what a curve measures, in words
+abbrev pub axis_name : Measure → Words
+axis_name Versions = words.VersionsAxis
+axis_name Bytes = words.BytesAxis
+
+abbrev pub amount_words : Measure → ℕ → Words
+amount_words Versions amount = words.Count amount
+amount_words Bytes amount = words.Bytes amount
+
+abbrev pub axis_marks : ℕ → Words → List Mark
+axis_marks y said = Line (150, y) (896, y) stroke.Grid ∷ Text 144 (y + 3) 9 Before said ∷ []
+
+abbrev pub axis_line : Page → Measure → ℕ → ℕ → List Mark
+axis_line page measure highest amount = axis_marks (curve_y page highest amount) (amount_words measure amount)
+
+abbrev pub axis_at : Page → Measure → ℕ → ℕ → List ℕ
+axis_at page measure highest k = flat_map mark_text (axis_line page measure highest (k * axis_step highest))
+
+-- so many lines of the axis, one at each multiple of its step
+abbrev pub axis_until : Page → Measure → ℕ → ℕ → List ℕ
+axis_until page measure highest lines = flat_map (axis_at page measure highest) (range_with_len 0 lines)
+
+-- what the axis counts, and what the bars of strips mean
+abbrev pub axis_words : Page → Measure → List Mark
+axis_words page measure = Text 150 (page.top - 4) 9 Behind (axis_name measure) ∷ Text 150 (page.top + 250) 8 Behind words.Bars ∷ []
+
+-- these words, and the lines up to the most
+abbrev pub axis_drawn : Page → Measure → ℕ → List ℕ
+axis_drawn page measure highest =
+    flat_map mark_text (axis_words page measure) ++ axis_until page measure highest (min (highest / axis_step highest) 9 + 1)
 
 abbrev pub strip_marks : ℕ → Words → List Mark
 strip_marks top said = Text 140 (top + 11) 8 Before said ∷ Rect 150 top 746 16 fill.Paper ∷ []
@@ -57,9 +88,9 @@ abbrev pub strip_top : Page → ℕ → ℕ
 strip_top page level = page.top + 254 + 22 * min level 8
 
 abbrev pub summary_heading : ℕ → List ℕ
-summary_heading count = (codes "<text x='20' y='37' font-size='11'>" ++ decimal count) ++ codes " versions, and how many stay over time</text>\n"
+summary_heading count = (codes "<text x='20' y='37' font-size='11'>" ++ decimal count) ++ codes " versions, and what stays over time</text>\n"
 
 -- the title, the policies, the ticks and the axis
-abbrev pub summary_frame : Page → List ℕ → List Plan → ℕ → List ℕ
-summary_frame page title plans highest =
-    head_drawn page title ++ (summary_heading (length (versions_of plans)) ++ (keys_drawn plans ++ (foot_drawn page ++ axis_drawn page highest)))
+abbrev pub summary_frame : Page → Measure → List ℕ → List Plan → ℕ → List ℕ
+summary_frame page measure title plans highest =
+    head_drawn page title ++ (summary_heading (length (versions_of plans)) ++ (keys_drawn plans ++ (foot_drawn page ++ axis_drawn page measure highest)))

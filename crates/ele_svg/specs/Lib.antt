@@ -2,6 +2,7 @@ pub mod Curve
 pub mod Drawing
 pub mod Frame
 pub mod Key
+pub mod Notes
 pub mod Rows
 pub mod Shapes
 pub mod Strips

@@ -11,6 +11,7 @@ use Rattle.ele_policy.specs.declared.cause.Cause.{Cause}
 use Rattle.ele_policy.specs.declared.cause.Cause.TheVariants as cause
 use Rattle.ele_policy.specs.declared.policy.Policy.{Policy}
 use Rattle.ele_svg.specs.Frame.{frame_drawn}
+use Rattle.ele_svg.specs.Notes.{notes_of_plan}
 use Rattle.ele_svg.specs.Shapes.{bar_of, beside_of, due_bar_of, square_of}
 use Rattle.ele_svg_marks.specs.Labels.{labels_drawn}
 use Rattle.ele_svg_marks.specs.Mark.{mark_text}
@@ -90,11 +91,12 @@ kept_marks page at number = square_of page (x_of page at) (y_of page number) fil
 abbrev pub kept_drawn : Page → Staying → List ℕ
 kept_drawn page staying = flat_map (λ number. flat_map mark_text (kept_marks page staying.at number)) staying.numbers.items
 
--- the versions, behind their ties and the moments that are asked about, and what stays at these
+-- the versions, behind their ties and the moments that are asked about, what stays at these, and how many
 abbrev pub rows_drawn : Page → Policy → List Forecast → List Staying → List ℕ
 rows_drawn page policy forecasts stayings =
     flat_map (version_tied page forecasts) forecasts
-    ++ (flat_map (moment_drawn page) stayings ++ (flat_map (version_drawn policy page) forecasts ++ (flat_map (kept_drawn page) stayings ++ labels_drawn page stayings)))
+    ++ (flat_map (moment_drawn page) stayings ++ (flat_map (version_drawn policy page) forecasts ++ (flat_map (kept_drawn page) stayings
+    ++ (notes_of_plan page 0 stayings ++ labels_drawn page stayings))))
 
 -- a drawing with a row for each version
 abbrev pub rows_text : List ℕ → Plan → List ℕ

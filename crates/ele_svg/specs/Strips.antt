@@ -1,6 +1,6 @@
 -- The strips of a summary: which versions pass each level of a ladder.
-use Rattle.std.specs.List.{flat_map}
-use Rattle.std.specs.Prelude.{Bool, List, [], if◌then◌else◌, nat_lt, true, ℕ, ◌&&◌, ◌++◌, ◌+◌, ◌∷◌}
+use Rattle.std.specs.List.{flat_map, fold, range_with_len}
+use Rattle.std.specs.Prelude.{Bool, List, [], if◌then◌else◌, max, min, nat_lt, sum_by, true, ℕ, ◌&&◌, ◌*◌, ◌++◌, ◌+◌, ◌-◌, ◌/◌, ◌==◌, ◌∷◌}
 use Rattle.ele_forecast.specs.declared.forecast.Forecast.{Forecast}
 use Rattle.ele_forecast.specs.declared.forecast.Why.{Why}
 use Rattle.ele_forecast.specs.declared.forecast.Why.TheVariants as why
@@ -10,7 +10,7 @@ use Rattle.ele_policy.specs.declared.cause.Cause.TheVariants as cause
 use Rattle.ele_svg.specs.Key.{strip_marks, strip_top}
 use Rattle.ele_svg_marks.specs.Mark.{mark_text}
 use Rattle.ele_svg_marks.specs.Places.{x_of}
-use Rattle.ele_svg_marks.specs.Walk.{walked}
+use Rattle.ele_svg_marks.specs.declared.mark.Mark.{Mark}
 use Rattle.ele_svg_marks.specs.declared.mark.Mark.TheVariants.{Line}
 use Rattle.ele_svg_marks.specs.declared.mark.Stroke.TheVariants as stroke
 use Rattle.ele_svg_marks.specs.declared.mark.Words.{Words}
@@ -26,27 +26,42 @@ abbrev pub passes : ℕ → Why → Bool
 passes level (why.Goes cause) = passes_by level cause
 passes level other = true
 
--- a strip has a tick where versions closed that pass its level: one for all that stand at one place
-abbrev pub is_seen : Page → ℕ → ℕ → Forecast → Bool
-is_seen page level last told = passes level told.why && nat_lt last (x_of page told.closed)
+-- the column, four pixels wide, in which a version closed
+abbrev pub column_of : Page → Forecast → ℕ
+column_of page told = (x_of page told.closed - 150) / 4
 
-abbrev pub tick_if : Page → ℕ → Bool → Forecast → List ℕ
-tick_if page top seen told =
-    if seen then flat_map mark_text (Line (x_of page told.closed, top) (x_of page told.closed, top + 16) stroke.Tick ∷ []) else []
+-- 1 for a version of the column that passes the level, and else 0
+abbrev pub one_in : Page → ℕ → ℕ → Forecast → ℕ
+one_in page level column told = if (column_of page told == column) && passes level told.why then 1 else 0
 
-abbrev pub last_if : Page → Bool → ℕ → Forecast → ℕ
-last_if page seen last told = if seen then x_of page told.closed else last
+-- how many versions of the column pass the level
+abbrev pub count_in : Page → ℕ → ℕ → List Forecast → ℕ
+count_in page level column forecasts = sum_by (one_in page level column) forecasts
 
-abbrev pub strip_tick : Page → ℕ → ℕ → ℕ → Forecast → List ℕ
-strip_tick page top level last told = tick_if page top (is_seen page level last told) told
+-- the most in one of the 187 columns, and one at least
+unfoldable pub most_in : Page → ℕ → List Forecast → ℕ
+most_in page level forecasts = fold (λ most column. max most (count_in page level column forecasts)) 1 (range_with_len 0 187)
 
-abbrev pub last_seen : Page → ℕ → ℕ → Forecast → ℕ
-last_seen page level last told = last_if page (is_seen page level last told) last told
+-- a column without versions has no bar, one has a bar of a pixel at least, and the most have one of 16
+abbrev pub bar_height : ℕ → ℕ → ℕ
+bar_height most count = if count == 0 then 0 else 1 + min (count * 15 / most) 15
+
+abbrev pub bar_marks : ℕ → ℕ → ℕ → List Mark
+bar_marks top column height =
+    if nat_lt 0 height then Line (152 + 4 * column, top + 16) (152 + 4 * column, top + 16 - height) stroke.Bar ∷ [] else []
+
+-- a strip has a bar for each column
+abbrev pub bar_in : Page → ℕ → ℕ → List Forecast → ℕ → List ℕ
+bar_in page top level forecasts column =
+    flat_map mark_text (bar_marks top column (bar_height (most_in page level forecasts) (count_in page level column forecasts)))
+
+unfoldable pub bars_drawn : Page → ℕ → ℕ → List Forecast → List ℕ
+bars_drawn page top level forecasts = flat_map (bar_in page top level forecasts) (range_with_len 0 187)
 
 abbrev pub strip_drawn : Page → ℕ → Words → List Forecast → List ℕ
 strip_drawn page level said forecasts =
     let top = strip_top page level in
-    flat_map mark_text (strip_marks top said) ++ walked (strip_tick page top level) (last_seen page level) 0 forecasts
+    flat_map mark_text (strip_marks top said) ++ bars_drawn page top level forecasts
 
 abbrev pub level_strip : Page → List Rung → List Forecast → Rung → List ℕ
 level_strip page rungs forecasts rung = strip_drawn page (level_of rungs rung.0) (words.Level rung.0 rung.1) forecasts

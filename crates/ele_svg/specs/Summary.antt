@@ -1,4 +1,4 @@
--- A forecast of many versions, or under several policies, as a drawing: how many versions stay over time, and which pass each level.
+-- A forecast of many versions, or under several policies, as a drawing: what stays over time, and which versions pass each level.
 use Rattle.std.specs.List.{flat_map, fold, range_with_len}
 use Rattle.std.specs.Option.{option_map_or}
 use Rattle.std.specs.Prelude.{List, [], codes, if◌then◌else◌, length, map, min, nat_lt, slice_get, ℕ, ◌*◌, ◌++◌, ◌+◌, ◌/◌, ◌<◌, ◌∷◌}
@@ -10,8 +10,10 @@ use Rattle.ele_forecast_text.specs.declared.staying.Staying.{Staying}
 use Rattle.ele_policy.specs.Ladder.{Rung}
 use Rattle.ele_svg.specs.Curve.{highest_of, points_drawn}
 use Rattle.ele_svg.specs.Key.{curve_stroke, summary_frame}
+use Rattle.ele_svg.specs.Notes.{newest_drawn, notes_drawn}
 use Rattle.ele_svg.specs.Rows.{moment_drawn}
 use Rattle.ele_svg.specs.Strips.{strips_drawn}
+use Rattle.ele_svg.specs.declared.measure.Measure.{Measure}
 use Rattle.ele_svg_marks.specs.Labels.{labels_drawn}
 use Rattle.ele_svg_marks.specs.Mark.{glued, stroke_words}
 use Rattle.ele_svg_marks.specs.Page.{label_rows, rungs_of}
@@ -62,14 +64,15 @@ moments_until page columns = map (column_moment page) (range_with_len 0 columns)
 abbrev pub column_moments : List Plan → List ℕ
 column_moments plans = moments_until (summary_page plans) 187
 
--- the moments that are asked about, the strips, the curves and the moments' labels
+-- the strips, the moments that are asked about, the curves, what is written beside moments, and the moments' labels
 abbrev pub summary_body : Page → List Plan → List Counts → ℕ → List ℕ
 summary_body page plans rows highest =
     strips_drawn page (ladder_of plans) (versions_of plans)
-    ++ (flat_map (moment_drawn page) (moments_of plans) ++ (curves_drawn page highest rows (length plans) ++ labels_drawn page (moments_of plans)))
+    ++ (flat_map (moment_drawn page) (moments_of plans) ++ (curves_drawn page highest rows (length plans)
+    ++ (newest_drawn page (versions_of plans) ++ (notes_drawn page plans ++ labels_drawn page (moments_of plans)))))
 
-abbrev pub summary_text : List ℕ → List Plan → List Counts → List ℕ
-summary_text title plans rows =
+abbrev pub summary_text : Measure → List ℕ → List Plan → List Counts → List ℕ
+summary_text measure title plans rows =
     let page = summary_page plans in
     let highest = highest_of rows in
-    summary_frame page title plans highest ++ (summary_body page plans rows highest ++ codes "</svg>\n")
+    summary_frame page measure title plans highest ++ (summary_body page plans rows highest ++ codes "</svg>\n")

@@ -28,7 +28,7 @@ pub fn drawing_counts(
     ensures err { OnErr result (has_curves plans.now ≡ true) }
 {
     if has_curves(plans) {
-        let moments = column_moments(alloc, plans)?;
+        let moments = curve_moments(alloc, plans)?;
         counts_at_moments(alloc, moments.as_slice(), closings, plans)
     } else {
         Ok(Vec::new(alloc))
@@ -46,8 +46,8 @@ pub(crate) fn has_curves(plans: &[Plan]) -> bool
     }
 }
 
-// The moment of each point of a curve.
-fn column_moments(alloc: Global, plans: &[Plan]) -> Result<Vec<Moment>, NoMemory>
+/// Returns the moment of each point of the curves of a drawing. `NoMemory` if memory is refused.
+pub fn curve_moments(alloc: Global, plans: &[Plan]) -> Result<Vec<Moment>, NoMemory>
     ensures { IfOk result (λ moments. moments.items ≡ column_moments plans.now) }
 {
     let page = summary_page(plans);

@@ -4,9 +4,12 @@
 mod columns;
 mod curve;
 mod marks;
+mod measure;
+mod notes;
 mod rows;
 mod strip;
 mod summary;
 
-pub use columns::drawing_counts;
-pub use summary::put_drawing;
+pub use columns::{curve_moments, drawing_counts};
+pub use measure::Measure;
+pub use summary::{put_bytes_drawing, put_drawing};

@@ -8,6 +8,7 @@ ghost use Rattle.ele_svg.specs.Rows.{kept_drawn, kept_marks, moment_drawn, rows_
 ghost use Rattle.ele_svg_marks.specs.Mark.{mark_text};
 
 use crate::marks::{band_top, border_marks, foot_marks, square, tie_marks, version_marks};
+use crate::notes::put_notes_of;
 use ele_forecast::{Forecast, Why};
 use ele_forecast_text::{Plan, Staying, put_version};
 use ele_moment::{Moment, VersionNo};
@@ -58,8 +59,8 @@ fn put_frame<W: Write>(
     put_bands(page, rungs_of(policy), printer);
 }
 
-// Puts the versions, behind their ties and the moments that are asked about, and what stays at
-// these.
+// Puts the versions, behind their ties and the moments that are asked about, what stays at these,
+// and how many.
 fn put_rows<W: Write>(
     page: &Page,
     policy: &Policy,
@@ -74,6 +75,7 @@ fn put_rows<W: Write>(
     put_moments(page, stayings, printer);
     put_versions(page, policy, forecasts, printer);
     put_kept(page, stayings, printer);
+    put_notes_of(page, 0, stayings, printer);
     put_labels(page, stayings, printer);
 }
 

@@ -1,10 +1,11 @@
 //! The strips of a summary: the versions that pass each level of a ladder. A contract sees what is put as
 //! its text.
-ghost use Rattle.std.specs.Prelude.{◌≡◌, ◌<◌, ◌^◌};
+ghost use Rattle.std.specs.Prelude.{◌≡◌, ◌<◌, ◌≤◌, ◌^◌, max};
+ghost use Rattle.std.specs.List.{flat_map};
 ghost use Rattle.ele_output.specs.Prints.{Prints};
 ghost use Rattle.ele_svg.specs.Key.{strip_top};
-ghost use Rattle.ele_svg.specs.Strips.{is_seen, last_if, last_seen, passes, strip_drawn, strip_tick, strips_drawn, tick_if};
-ghost use Rattle.ele_svg_marks.specs.Walk.{walked};
+ghost use Rattle.ele_svg.specs.Strips.{bar_height, bar_marks, bars_drawn, column_of, count_in, most_in, one_in, passes, strip_drawn, strips_drawn};
+ghost use Rattle.ele_svg_marks.specs.Mark.{mark_text};
 
 use crate::rows::level_of;
 use ele_forecast::{Forecast, Why};
@@ -12,6 +13,9 @@ use ele_output::Printer;
 use ele_policy::Cause;
 use ele_svg_marks::{Fill, Mark, Page, Side, Stroke, Words, put_marks};
 use std::io::Write;
+
+// The bars of a strip stand in so many columns.
+const COLUMNS: u64 = 187;
 
 /// Puts a strip of all versions, and one for each level of a ladder.
 pub(crate) fn put_strips<W: Write>(
@@ -61,7 +65,7 @@ fn put_strip<W: Write>(
         ],
         printer,
     );
-    put_ticks(page, top, level, forecasts, printer);
+    put_bars(page, top, level, forecasts, printer);
 }
 
 // How far from above the strip of a level begins.
@@ -72,8 +76,8 @@ fn strip_top(page: &Page, level: usize) -> u64
     page.top as u64 + 254 + 22 * level.min(8) as u64
 }
 
-// Puts the ticks of a strip.
-fn put_ticks<W: Write>(
+// Puts the bars of a strip.
+fn put_bars<W: Write>(
     page: &Page,
     top: u64,
     level: usize,
@@ -82,51 +86,95 @@ fn put_ticks<W: Write>(
 )
     requires { top < 2 ^ 60 }
     ensures { Prints W.contents printer.old printer.new
-        (walked (strip_tick page.now top level) (last_seen page.now level) 0 forecasts.now) }
+        (bars_drawn page.now top level forecasts.now) }
 {
-    let mut last = 0;
+    let most = most_in(page, level, forecasts);
+    for column in 0..COLUMNS {
+        let count = count_in(page, level, column, forecasts);
+        put_bar(top, column, bar_height(most, count), printer);
+    }
+}
+
+// The most versions of one column that pass the level, and 1 at least.
+fn most_in(page: &Page, level: usize, forecasts: &[Forecast]) -> u64
+    ensures value { result ≡ most_in page.now level forecasts.now }
+    ensures some { 0 < result }
+{
+    let mut most = 1;
+    for column in 0..COLUMNS {
+        let count = count_in(page, level, column, forecasts);
+        most = larger(most, count);
+    }
+    most
+}
+
+// The larger of two numbers.
+fn larger(a: u64, b: u64) -> u64
+    ensures { result ≡ max a b }
+{
+    if a < b { b } else { a }
+}
+
+// How many versions of a column pass the level.
+fn count_in(page: &Page, level: usize, column: u64, forecasts: &[Forecast]) -> u64
+    ensures { result ≡ count_in page.now level column forecasts.now }
+{
+    let mut count = 0;
     for forecast in forecasts {
-        let seen = is_seen(page, level, last, forecast);
-        put_tick(page, top, seen, forecast, printer);
-        last = last_seen(page, seen, last, forecast);
+        count += one_in(page, level, column, forecast);
+    }
+    count
+}
+
+// 1 for a version of the column that passes the level, and else 0.
+fn one_in(page: &Page, level: usize, column: u64, forecast: &Forecast) -> u64
+    ensures value { result ≡ one_in page.now level column forecast.now }
+    ensures small { result ≤ 1 }
+{
+    if column_of(page, forecast) == column && passes(level, forecast.why) {
+        1
+    } else {
+        0
     }
 }
 
-// Whether a version has a tick in the strip of a level, behind the last one.
-fn is_seen(page: &Page, level: usize, last: u64, forecast: &Forecast) -> bool
-    ensures { result ≡ is_seen page.now level last forecast.now }
+// The column in which a version closed.
+fn column_of(page: &Page, forecast: &Forecast) -> u64
+    ensures { result ≡ column_of page.now forecast.now }
 {
-    passes(level, forecast.why) && last < page.x(forecast.closed)
+    page.x(forecast.closed).saturating_sub(150) / 4
 }
 
-// Puts the tick of a version, if it has one.
-fn put_tick<W: Write>(
-    page: &Page,
-    top: u64,
-    seen: bool,
-    forecast: &Forecast,
-    printer: &mut Printer<'_, W>,
-)
-    requires { top < 2 ^ 60 }
+// How high the bar of so many versions is, if the most are so many.
+fn bar_height(most: u64, count: u64) -> u64
+    requires { 0 < most }
+    ensures value { result ≡ bar_height most count }
+    ensures small { result ≤ 16 }
+{
+    if count == 0 {
+        return 0;
+    }
+    let height = count as u128 * 15 / most as u128;
+    1 + height.min(15) as u64
+}
+
+// Puts a bar, unless it has no height.
+fn put_bar<W: Write>(top: u64, column: u64, height: u64, printer: &mut Printer<'_, W>)
+    requires top { top < 2 ^ 60 }
+    requires column { column < 187 }
+    requires height { height ≤ 16 }
     ensures { Prints W.contents printer.old printer.new
-        (tick_if page.now top seen forecast.now) }
+        (flat_map mark_text (bar_marks top column height)) }
 {
-    if seen {
-        let x = page.x(forecast.closed);
-        let tick = Mark::Line {
-            from: (x, top),
-            to: (x, top + 16),
-            stroke: Stroke::Tick,
+    if height > 0 {
+        let x = 152 + 4 * column;
+        let bar = Mark::Line {
+            from: (x, top + 16),
+            to: (x, top + 16 - height),
+            stroke: Stroke::Bar,
         };
-        put_marks(&[tick], printer);
+        put_marks(&[bar], printer);
     }
-}
-
-// The place of the last tick.
-fn last_seen(page: &Page, seen: bool, last: u64, forecast: &Forecast) -> u64
-    ensures { result ≡ last_if page.now seen last forecast.now }
-{
-    if seen { page.x(forecast.closed) } else { last }
 }
 
 // Whether a version passes a level.

@@ -3,12 +3,14 @@
 ghost use Rattle.std.specs.Prelude.{◌≡◌, ◌<◌, ◌≤◌, ◌^◌, length};
 ghost use Rattle.std.specs.List.{fold};
 ghost use Rattle.ele_output.specs.Prints.{Prints};
-ghost use Rattle.ele_svg.specs.Drawing.{drawing_text};
+ghost use Rattle.ele_svg.specs.Drawing.{bytes_text, drawing_text};
 ghost use Rattle.ele_svg.specs.Key.{key_drawn, key_y, keys_drawn, summary_frame};
 ghost use Rattle.ele_svg.specs.Summary.{ladder_of, last_of_plan, moments_of, summary_body, summary_page, summary_text};
 
 use crate::columns::has_curves;
-use crate::curve::{curve_stroke, highest_of, put_axis_line, put_curves};
+use crate::curve::{curve_stroke, highest_of, put_axis, put_curves};
+use crate::measure::Measure;
+use crate::notes::{put_newest, put_notes};
 use crate::rows::{put_foot, put_moments, put_rows_drawing};
 use crate::strip::put_strips;
 use ele_forecast_forms::Counts;
@@ -33,27 +35,42 @@ pub fn put_drawing<W: Write>(
         (drawing_text title.now plans.now rows.now) }
 {
     if has_curves(plans) {
-        put_summary(title, plans, rows, printer);
+        put_summary(Measure::Versions, title, plans, rows, printer);
     } else {
         match plans.first() {
             Some(plan) => put_rows_drawing(title, plan, printer),
-            None => put_summary(title, plans, rows, printer),
+            None => put_summary(Measure::Versions, title, plans, rows, printer),
         }
     }
 }
 
-// Puts a summary.
-fn put_summary<W: Write>(
+/// Puts a drawing of the bytes that stay under each policy. The points of its curves are these bytes, one number for
+/// each plan.
+pub fn put_bytes_drawing<W: Write>(
     title: &[u8],
     plans: &[Plan],
     rows: &[Counts],
     printer: &mut Printer<'_, W>,
 )
-    ensures { Prints W.contents printer.old printer.new (summary_text title.now plans.now rows.now) }
+    ensures { Prints W.contents printer.old printer.new
+        (bytes_text title.now plans.now rows.now) }
+{
+    put_summary(Measure::Bytes, title, plans, rows, printer);
+}
+
+// Puts a summary.
+fn put_summary<W: Write>(
+    measure: Measure,
+    title: &[u8],
+    plans: &[Plan],
+    rows: &[Counts],
+    printer: &mut Printer<'_, W>,
+)
+    ensures { Prints W.contents printer.old printer.new (summary_text measure title.now plans.now rows.now) }
 {
     let page = summary_page(plans);
     let highest = highest_of(rows);
-    put_frame(&page, title, plans, highest, printer);
+    put_frame(&page, measure, title, plans, highest, printer);
     put_body(&page, plans, rows, highest, printer);
     printer.put(b"</svg>\n");
 }
@@ -61,6 +78,7 @@ fn put_summary<W: Write>(
 // Puts the title, the policies, the ticks and the axis.
 fn put_frame<W: Write>(
     page: &Page,
+    measure: Measure,
     title: &[u8],
     plans: &[Plan],
     highest: u64,
@@ -68,7 +86,7 @@ fn put_frame<W: Write>(
 )
     requires { 0 < highest }
     ensures { Prints W.contents printer.old printer.new
-        (summary_frame page.now title.now plans.now highest) }
+        (summary_frame page.now measure title.now plans.now highest) }
 {
     put_head(page, title, printer);
     put_with_number(
@@ -76,15 +94,14 @@ fn put_frame<W: Write>(
         versions_of(plans).len() as u64,
         printer,
     );
-    printer.put(b" versions, and how many stay over time</text>\n");
+    printer.put(b" versions, and what stays over time</text>\n");
     put_keys(plans, printer);
     put_foot(page, printer);
-    put_axis_line(page, highest, highest, printer);
-    put_axis_line(page, highest, highest / 2, printer);
-    put_axis_line(page, highest, 0, printer);
+    put_axis(page, measure, highest, printer);
 }
 
-// Puts the strips, the moments that are asked about, the curves and the moments' labels.
+// Puts the strips, the moments that are asked about, the curves, what is written beside moments, and
+// the moments' labels.
 fn put_body<W: Write>(
     page: &Page,
     plans: &[Plan],
@@ -99,6 +116,8 @@ fn put_body<W: Write>(
     put_strips(page, ladder_of(plans), versions_of(plans), printer);
     put_moments(page, moments_of(plans), printer);
     put_curves(page, highest, rows, plans.len(), printer);
+    put_newest(page, versions_of(plans), printer);
+    put_notes(page, plans, printer);
     put_labels(page, moments_of(plans), printer);
 }
 

@@ -29,14 +29,16 @@ policy_name policy.All = codes " Keep All"
 policy_name (policy.Safe seconds floor) = join_with_byte 32 (codes " Keep Safe for" ∷ (length_words seconds ++ floor_words floor))
 policy_name (policy.Landmarks rungs) = codes " Keep Landmarks (age / span)" ++ flat_map rung_text rungs
 
--- the document's opening, its title, its background and what its hatches are
+-- the document's opening, its title, its colours where the screen is dark, its background and what its hatches are
 abbrev pub head_drawn : Page → List ℕ → List ℕ
 head_drawn page title =
     glued (codes "<?xml version='1.0' encoding='UTF-8'?>\n"
     ∷ codes "<!DOCTYPE svg PUBLIC '-//W3C//DTD SVG 1.1//EN' 'http://www.w3.org/Graphics/SVG/1.1/DTD/svg11.dtd'>\n"
     ∷ codes "<svg xmlns='http://www.w3.org/2000/svg' version='1.1' font-family='sans-serif' width='960' height='" ∷ decimal (height_of page) ∷ codes "'>\n<title>" ∷ [])
     ++ (titled title
-    ++ (glued (codes "</title>\n<style>text{paint-order:stroke;stroke:#fff;stroke-width:5px;stroke-linejoin:round}</style>\n"
+    ++ (glued (codes "</title>\n<style>text{paint-order:stroke;stroke:#fff;stroke-width:5px;stroke-linejoin:round}\n"
+    ∷ codes "@media (prefers-color-scheme:dark){text{fill:#e6e6e6;stroke:#1b1e23}[fill='#fff']{fill:#1b1e23}[fill='#000']{fill:#fff}[fill='#14375a']{fill:#8fc1f0}\n"
+    ∷ codes "[stroke='#000']{stroke:#ccc}[stroke='#bbb']{stroke:#4a4f57}[stroke='#555']{stroke:#999}[stroke='#14375a']{stroke:#8fc1f0}[stroke='#7d3c98']{stroke:#c39bd3}[stroke='#d35400']{stroke:#f0955a}}</style>\n"
     ∷ codes "<defs><pattern id='hatch' width='6' height='6' patternUnits='userSpaceOnUse'><path d='M0,6 6,0' stroke='#555' stroke-width='0.8'/></pattern></defs>\n"
     ∷ codes "<rect width='960' height='" ∷ decimal (height_of page) ∷ codes "' fill='#fff'/>\n<text x='20' y='20' font-size='15'>" ∷ [])
     ++ (titled title ++ codes "</text>\n")))

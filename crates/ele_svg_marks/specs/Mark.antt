@@ -1,5 +1,5 @@
 -- What a drawing is made of, and how each is written in SVG.
-use Rattle.std.specs.Prelude.{ℕ, List, [], ◌∷◌, ◌++◌, codes, decimal, take}
+use Rattle.std.specs.Prelude.{ℕ, ◌%◌, ◌/◌, ◌==◌, ◌||◌, nat_lt, List, [], ◌∷◌, ◌++◌, codes, decimal, take, if◌then◌else◌}
 use Rattle.std.specs.List.{flat_map, join_with_byte}
 use Rattle.ele_forecast_text.specs.Stamp.{stamp_of}
 use Rattle.ele_forecast_text.specs.Why.{length_words}
@@ -38,7 +38,7 @@ stroke_words stroke.Grid = codes "#bbb' stroke-width='0.5"
 stroke_words stroke.Thin = codes "#000' stroke-width='0.6"
 stroke_words stroke.Dotted = codes "#000' stroke-width='0.6' stroke-dasharray='1.5 2.5"
 stroke_words stroke.Dashed = codes "#000' stroke-width='1.2' stroke-dasharray='6 3"
-stroke_words stroke.Tick = codes "#14375a' stroke-width='1"
+stroke_words stroke.Bar = codes "#3f7fbf' stroke-width='3"
 stroke_words stroke.First = codes "#14375a' stroke-width='1.8"
 stroke_words stroke.Second = codes "#d35400' stroke-width='1.8' stroke-dasharray='9 3"
 stroke_words stroke.Third = codes "#3f7fbf' stroke-width='1.8' stroke-dasharray='4 2"
@@ -56,6 +56,20 @@ side_word Before = codes "end"
 side_word Around = codes "middle"
 side_word Behind = codes "start"
 
+-- the largest unit of which the bytes are a multiple, up to 10^12, and its name
+abbrev pub unit_size : ℕ → ℕ
+unit_size bytes =
+    if nat_lt 0 (bytes % 1000) || (bytes == 0) then 1 else (if nat_lt 0 (bytes % 1000000) then 1000 else (if nat_lt 0 (bytes % 1000000000) then 1000000
+    else (if nat_lt 0 (bytes % 1000000000000) then 1000000000 else 1000000000000)))
+
+abbrev pub unit_name : ℕ → List ℕ
+unit_name bytes =
+    if nat_lt 0 (bytes % 1000) || (bytes == 0) then codes " B" else (if nat_lt 0 (bytes % 1000000) then codes " kB" else (if nat_lt 0 (bytes % 1000000000) then codes " MB"
+    else (if nat_lt 0 (bytes % 1000000000000) then codes " GB" else codes " TB")))
+
+abbrev pub bytes_text : ℕ → List ℕ
+bytes_text bytes = decimal (bytes / unit_size bytes) ++ unit_name bytes
+
 -- of a moment's date and time of day, a date is the first ten bytes, a month seven and a year four
 abbrev pub label_text : Words → List ℕ
 label_text (words.Number number) = glued (codes "v" ∷ decimal number ∷ [])
@@ -65,7 +79,13 @@ label_text words.Kept = codes "kept"
 label_text words.Current = codes "current"
 label_text words.Narrow = codes "spans too narrow to draw"
 label_text words.Closings = codes "all versions, by closing"
+label_text words.Bars = codes "bars: how many versions closed then that a level lets stay"
+label_text words.VersionsAxis = codes "versions that stay"
+label_text words.BytesAxis = codes "bytes that stay"
+label_text words.NoNewer = codes "no newer version"
 label_text (words.Count count) = decimal count
+label_text (words.Bytes bytes) = bytes_text bytes
+label_text (words.Stay count) = decimal count ++ codes " stay"
 label_text (words.Seconds moment) = decimal moment
 label_text (words.Stamp moment) = stamp_of moment
 label_text (words.Date moment) = take 10 (stamp_of moment)

@@ -33,7 +33,9 @@ pub fn put_head<W: Write>(page: &Page, title: &[u8], printer: &mut Printer<'_, W
     put_titled(title, printer);
     put_parts(
         &[
-            b"</title>\n<style>text{paint-order:stroke;stroke:#fff;stroke-width:5px;stroke-linejoin:round}</style>\n",
+            b"</title>\n<style>text{paint-order:stroke;stroke:#fff;stroke-width:5px;stroke-linejoin:round}\n",
+            b"@media (prefers-color-scheme:dark){text{fill:#e6e6e6;stroke:#1b1e23}[fill='#fff']{fill:#1b1e23}[fill='#000']{fill:#fff}[fill='#14375a']{fill:#8fc1f0}\n",
+            b"[stroke='#000']{stroke:#ccc}[stroke='#bbb']{stroke:#4a4f57}[stroke='#555']{stroke:#999}[stroke='#14375a']{stroke:#8fc1f0}[stroke='#7d3c98']{stroke:#c39bd3}[stroke='#d35400']{stroke:#f0955a}}</style>\n",
             b"<defs><pattern id='hatch' width='6' height='6' patternUnits='userSpaceOnUse'><path d='M0,6 6,0' stroke='#555' stroke-width='0.8'/></pattern></defs>\n",
             b"<rect width='960' height='",
             height,

@@ -1,9 +1,9 @@
 //! What a drawing is made of. A contract sees a mark as plain data, and what is put of it as its
 //! text.
-ghost use Rattle.std.specs.Prelude.{◌≡◌, ◌≤◌, ◌∷◌, ◌++◌, [], codes, decimal};
+ghost use Rattle.std.specs.Prelude.{◌≡◌, ◌<◌, ◌≤◌, ◌∷◌, ◌++◌, [], codes, decimal};
 ghost use Rattle.std.specs.List.{flat_map};
 ghost use Rattle.ele_output.specs.Prints.{Prints};
-ghost use Rattle.ele_svg_marks.specs.Mark.{fill_word, stroke_text, mark_text, opening, rect_text, side_word, stroke_words, label_text};
+ghost use Rattle.ele_svg_marks.specs.Mark.{bytes_text, fill_word, stroke_text, mark_text, opening, rect_text, side_word, stroke_words, label_text, unit_name, unit_size};
 
 use ele_forecast_text::{put_length, stamp_of};
 use ele_moment::{Moment, VersionNo};
@@ -32,7 +32,8 @@ pub enum Stroke {
     Thin,
     Dotted,
     Dashed,
-    Tick,
+    /// A bar of a strip.
+    Bar,
     /// Those of the curves of policies.
     First,
     Second,
@@ -58,7 +59,17 @@ pub enum Words {
     Current,
     Narrow,
     Closings,
+    /// What the bars of strips mean.
+    Bars,
+    /// What the axis of a curve counts.
+    VersionsAxis,
+    BytesAxis,
+    /// No version closed later.
+    NoNewer,
     Count(u64),
+    Bytes(u64),
+    /// How many versions stay at a moment.
+    Stay(u64),
     Seconds(Moment),
     Stamp(Moment),
     Date(Moment),
@@ -102,7 +113,7 @@ impl Stroke {
             Stroke::Thin => b"#000' stroke-width='0.6",
             Stroke::Dotted => b"#000' stroke-width='0.6' stroke-dasharray='1.5 2.5",
             Stroke::Dashed => b"#000' stroke-width='1.2' stroke-dasharray='6 3",
-            Stroke::Tick => b"#14375a' stroke-width='1",
+            Stroke::Bar => b"#3f7fbf' stroke-width='3",
             Stroke::First => b"#14375a' stroke-width='1.8",
             Stroke::Second => b"#d35400' stroke-width='1.8' stroke-dasharray='9 3",
             Stroke::Third => b"#3f7fbf' stroke-width='1.8' stroke-dasharray='4 2",
@@ -272,7 +283,16 @@ fn put_said<W: Write>(words: &Words, printer: &mut Printer<'_, W>)
         Words::Current => printer.put(b"current"),
         Words::Narrow => printer.put(b"spans too narrow to draw"),
         Words::Closings => printer.put(b"all versions, by closing"),
+        Words::Bars => printer.put(b"bars: how many versions closed then that a level lets stay"),
+        Words::VersionsAxis => printer.put(b"versions that stay"),
+        Words::BytesAxis => printer.put(b"bytes that stay"),
+        Words::NoNewer => printer.put(b"no newer version"),
         Words::Count(count) => put_number(*count, printer),
+        Words::Bytes(bytes) => put_bytes(*bytes, printer),
+        Words::Stay(count) => {
+            put_number(*count, printer);
+            printer.put(b" stay");
+        }
         Words::Seconds(moment) => put_number(moment.seconds(), printer),
         Words::Stamp(moment) => printer.put(&stamp_of(*moment)),
         Words::Date(moment) => printer.put(&stamp_of(*moment)[..10]),
@@ -282,6 +302,34 @@ fn put_said<W: Write>(words: &Words, printer: &mut Printer<'_, W>)
             put_length(b"age", *age, printer);
             put_length(b", span", *width, printer);
         }
+    }
+}
+
+// Puts bytes in the largest unit of which they are a multiple.
+fn put_bytes<W: Write>(bytes: u64, printer: &mut Printer<'_, W>)
+    ensures { Prints W.contents printer.old printer.new (bytes_text bytes) }
+{
+    let (size, name) = byte_unit(bytes);
+    put_number(bytes / size, printer);
+    printer.put(name);
+}
+
+// The largest unit of which the bytes are a multiple, and its name.
+fn byte_unit(bytes: u64) -> (u64, &'static [u8])
+    ensures size { result.0 ≡ unit_size bytes }
+    ensures name { result.1.now ≡ unit_name bytes }
+    ensures some { 0 < result.0 }
+{
+    if bytes % 1_000 > 0 || bytes == 0 {
+        (1, b" B")
+    } else if bytes % 1_000_000 > 0 {
+        (1_000, b" kB")
+    } else if bytes % 1_000_000_000 > 0 {
+        (1_000_000, b" MB")
+    } else if bytes % 1_000_000_000_000 > 0 {
+        (1_000_000_000, b" GB")
+    } else {
+        (1_000_000_000_000, b" TB")
     }
 }
 

@@ -6,4 +6,5 @@ returns g c =
     puts_then c.put_ties.ensures (
     puts_then c.put_moments.ensures (
     puts_then c.put_versions.ensures (
-    puts_then c.put_kept.ensures c.put_labels.ensures)))
+    puts_then c.put_kept.ensures (
+    puts_then c.put_notes_of.ensures c.put_labels.ensures))))

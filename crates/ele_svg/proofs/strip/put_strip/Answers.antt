@@ -3,4 +3,4 @@ use Rattle.ele_svg.proofs.strip.put_strip.Goals as goal
 
 pub returns : goal.returns
 returns g c =
-    puts_then (rw c.strip_top-top.ensures.value at c.put_marks.ensures) (rw c.strip_top-top.ensures.value at c.put_ticks.ensures)
+    puts_then (rw c.strip_top-top.ensures.value at c.put_marks.ensures) (rw c.strip_top-top.ensures.value at c.put_bars.ensures)
