@@ -6,7 +6,7 @@ use Rattle.ele_tool_words.specs.ReadParts.{rest_of, zone_of}
 use Rattle.ele_tool_words.specs.Time.{SpellsTime}
 use Rattle.ele_tool_words.specs.Zone.{SpellsZone}
 use Rattle.ele_tool_words.specs.declared.zone.Offset.{Offset}
-use Rattle.ele_tool_words.specs.declared.zone.Offset.TheVariants.{Ahead, Behind}
+use Rattle.ele_tool_words.specs.declared.zone.Offset.TheVariants.{Ahead}
 use Rattle.ele_tool_words.proofs.Locals.{zoned_long, zoned_rest}
 use Rattle.ele_tool_words.proofs.Times.{long_zoned}
 use Rattle.ele_tool_words.proofs.Zones.{zone_again, zone_found}

@@ -6,7 +6,7 @@ use Rattle.std.specs.List.{list_all}
 use Rattle.std.proofs.lemmas.Bool.{eqb-true}
 use Rattle.ele_moment.specs.ReadFields.{and_then}
 use Rattle.ele_moment.proofs.Timestamps.{given, some_is}
-use Rattle.ele_tool_words.specs.ReadParts.{after_digits, after_fraction, after_some_digits, rest_of}
+use Rattle.ele_tool_words.specs.ReadParts.{after_digits, after_fraction, after_some_digits, rest_of, zone_of}
 use Rattle.ele_tool_words.specs.Time.{IsFraction}
 use Rattle.ele_tool_words.specs.Zone.{SpellsZone}
 use Rattle.ele_tool_words.specs.declared.zone.Offset.{Offset}
@@ -113,3 +113,12 @@ rest_found rest o h = given _ _ _ h (λ zone e h1.
 pub rest_again : (fraction zone : List ℕ) (o : Offset) → IsFraction fraction → SpellsZone zone o → rest_of (fraction ++ zone) ≡ Some o
 unfolding rest_of and_then
 rest_again fraction zone o is spelled = rw (fraction_again fraction zone is (zone_plain zone o spelled)) (zone_again zone o spelled)
+
+-- what follows a fraction
+pub zone_again_behind : (fraction zone : List ℕ) (o : Offset) → IsFraction fraction → SpellsZone zone o → after_fraction (fraction ++ zone) ≡ Some zone
+zone_again_behind fraction zone o is spelled = fraction_again fraction zone is (zone_plain zone o spelled)
+
+-- is the zone
+pub rest_by_zone : (rest zone : List ℕ) (o : Offset) → after_fraction rest ≡ Some zone → zone_of zone ≡ Some o → rest_of rest ≡ Some o
+unfolding rest_of and_then
+rest_by_zone rest zone o e is = rw e is

@@ -6,6 +6,8 @@ mod Fractions
 mod Locals
 -- the forms of a time
 mod Times
+-- times by the clock of a place
+mod ByClocks
 -- clocks
 mod Clocks
 -- lengths of time, and their units

@@ -4,7 +4,7 @@ use Rattle.ele_moment.specs.Last.{last_moment}
 use Rattle.ele_moment.specs.Number.{SpellsNumber}
 use Rattle.ele_tool_words.specs.Time.{SpellsDate, SpellsZoned}
 use Rattle.ele_tool_words.specs.declared.zone.Offset.{Offset}
-use Rattle.ele_tool_words.specs.declared.zone.Offset.TheVariants.{Ahead, Behind}
+use Rattle.ele_tool_words.specs.declared.zone.Offset.TheVariants.{Ahead}
 
 -- a number of seconds or a date, which is UTC's
 abbrev pub SpellsPlain : List ℕ → ℕ → Offset → Type 0

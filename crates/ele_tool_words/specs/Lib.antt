@@ -1,6 +1,7 @@
 pub mod Zone
 pub mod Time
 pub mod Clock
+pub mod ByClock
 pub mod OneTime
 pub mod ReadParts
 pub mod Length

@@ -75,3 +75,8 @@ midnight_text = 84 ∷ codes "00:00:00Z"
 -- a date's midnight, as a time in UTC
 abbrev pub midnight_of : List ℕ → List ℕ
 midnight_of date = date ++ midnight_text
+
+-- the offset of a zone; that of the place if it is empty
+abbrev pub zone_by : Offset → List ℕ → Option Offset
+zone_by home [] = Some home
+zone_by home (c ∷ rest) = zone_of (c ∷ rest)

@@ -3,6 +3,7 @@
 //! as its number of seconds and a policy as plain data.
 #![tactic(auto)]
 
+mod by_clock;
 mod clock;
 mod cut;
 mod fraction;
@@ -14,6 +15,7 @@ mod safe;
 mod time;
 mod zone;
 
+pub use by_clock::{Clocked, read_clocked};
 pub use clock::{read_clock, read_offset};
 pub use length::read_length;
 pub use policy::read_policy;

@@ -52,8 +52,8 @@ fn read_zoned(word: &[u8]) -> Option<Moment>
     moment_at(local, offset)
 }
 
-// Whether the byte is allowed between a date and a time of day.
-fn is_mark(byte: u8) -> bool
+/// Whether the byte is allowed between a date and a time of day.
+pub(crate) fn is_mark(byte: u8) -> bool
     ensures { IsTrue result ↔ IsMark byte }
 {
     matches!(byte, b'T' | b't' | b' ')
@@ -68,8 +68,8 @@ pub(crate) fn read_rest(rest: &[u8]) -> Option<Offset>
     read_zone(zone)
 }
 
-// The moment at which a clock of that offset shows the seconds of the local one.
-fn moment_at(local: Moment, offset: Offset) -> Option<Moment>
+/// The moment at which a clock of that offset shows the seconds of the local one.
+pub(crate) fn moment_at(local: Moment, offset: Offset) -> Option<Moment>
     ensures found { IfSome result (IsShown local offset) }
     ensures only { (m : ℕ) → m ≤ last_moment → IsShown local offset m → result ≡ Some m }
 {

@@ -1,4 +1,4 @@
-use Rattle.std.proofs.Common.{rules, tests, ◌≡◌, ◌==◌, ◌∙◌, length, map, Bor, List, ℕ, sym, subst, arith, refl}
+use Rattle.std.proofs.Common.{rules, tests, ◌==◌, ◌∙◌, length, map, Bor, List, ℕ, sym, subst}
 use Rattle.std.proofs.lemmas.Bool.{eqb-true}
 use Rattle.std.proofs.lemmas.List.{length-map, map-append}
 use Rattle.std.proofs.lemmas.Iterator.Splits.{YieldsList-from_slice_split}
