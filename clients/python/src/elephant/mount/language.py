@@ -158,6 +158,12 @@ COMMANDS: dict[str, tuple[str, str, str]] = {
         "Prints when a version's draft was opened, when it closed and when it ended (- for the current one), and the policy of its file; "
         "of a directory, the number and the default.",
     ),
+    "story": (
+        "story P", "ok story F K, then K lines - version N C E L FATE by number, and - name FROM TO PATH in order",
+        "Tells what is known of the file at P or, if P names none, of the file that P named last: a line for each version, and one for "
+        "each name, live or deleted. Before its fate a removed version has 'removed MOMENT', and one that a mark held longer than its "
+        "policy 'held G M'. It needs the option --explain. NoEntry if P never named a file.",
+    ),
     "tick": (
         "tick N", "ok now S TEXT",
         "Moves the clock by N seconds. 'tick 0' prints the time. ClockEnd if that is later than the year 9999.",
