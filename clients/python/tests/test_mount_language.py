@@ -62,6 +62,7 @@ due
 ahead {START + HOUR}
 why /f
 why /f#2
+story /f
 clean
 pass 2
 usage
