@@ -21,6 +21,8 @@ CRATE = "ele_c"
 HEADER = ROOT / "include" / "elephant.h"
 # The calls of the header over the exports of the crate.
 CALLS = ROOT / "clients" / "c" / "src" / "elephant.c"
+# A store in a file: source that a program compiles, over the library.
+FILE_HEADER, FILE_SOURCE = ROOT / "include" / "elephant_file.h", ROOT / "clients" / "c" / "src" / "elephant_file.c"
 # The kit's clang has no headers of C. These have what elephant.h takes of them.
 HEADERS = {
     "stddef.h": "typedef __SIZE_TYPE__ size_t;\n",
