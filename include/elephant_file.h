@@ -22,7 +22,8 @@
  *   - nothing, or space that nothing was written to: cuts it off;
  *   - a change that ends where the file ends, or in which a block of 512 bytes still has that text to its end: its commit never returned,
  *     as after a kill or a power failure. Cuts it off, and info.cut says of how many bytes;
- *   - anything else: ELEPHANT_FILE_DAMAGED, and the file stays as it is. See options.repair.
+ *   - anything else: ELEPHANT_FILE_DAMAGED, and the file stays as it is. See options.repair. A file system that doesn't write data before
+ *     a file's length, as ext4 with data=writeback, may leave zeros after a power failure where the file was made longer, which look so.
  *
  * CODES. Each call that returns int32_t returns ELEPHANT_OK, a code of elephant.h, or one of enum elephant_file_code. A call that the store
  * stops returns NO_MEMORY, and you can make it again.

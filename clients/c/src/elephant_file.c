@@ -181,7 +181,7 @@ static uint64_t filled_from(const unsigned char *bytes, uint64_t from, uint64_t 
     return end;
 }
 
-/* A block that a crash kept from being filled may have zeros. */
+/* A block that a crash kept from being filled may have zeros. These follow filled ones: zeros in the place of a change are damage. */
 static bool is_blank(const unsigned char *bytes, uint64_t from, uint64_t end) {
     if (filled_from(bytes, from, end) == from) return true;
     while (end > from && !bytes[end - 1]) end--;
@@ -286,7 +286,7 @@ static int32_t open_store(const elephant_file *f, elephant *store, const unsigne
     uint64_t gap;
     int32_t code = elephant_journal_open(store, bytes, length, f->options.history, whole, rest);
     if (code || *rest != DAMAGE) return code;
-    if (written_end(bytes, *whole, length) == *whole) {
+    if (bytes[*whole] == filling_at(*whole) && written_end(bytes, *whole, length) == *whole) {
         *rest = NOTHING_FOLLOWS;
         return ELEPHANT_OK;
     }

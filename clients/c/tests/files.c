@@ -414,21 +414,30 @@ static void damage_before_a_hole_is_damage(void) {
     want_damaged(&torn, 2, &copies);
 }
 
-/* An extension of the file that a power failure stopped leaves zeros, and no change was there yet. */
+/* An extension of the file that a power failure stopped may leave zeros after the filling, and no change was there yet. */
 static void unfilled_space_is_no_damage(void) {
     static struct image zeros;
+    elephant_file *f;
     in_folder(path, "zeros");
-    for (int kind = 0; kind < 2; kind++) {
-        elephant_file *f;
-        zeros = kind ? sample.open : sample.closed;
-        if (!kind) zeros.length += 8192;
-        memset(zeros.at + (zeros.length - 8192), 0, 8192);
-        store(&zeros, zeros.length, path);
-        f = opened(path, NULL);
-        WANT(number_in(f) == CHANGES && info_of(f).cut == 0);
-        commit(f, 9);
-        elephant_file_close(f);
-        want_has(path, 9);
+    zeros = sample.open;
+    memset(zeros.at + (zeros.length - 8192), 0, 8192);
+    store(&zeros, zeros.length, path);
+    f = opened(path, NULL);
+    WANT(number_in(f) == CHANGES && info_of(f).cut == 0);
+    commit(f, 9);
+    elephant_file_close(f);
+    want_has(path, 9);
+}
+
+/* A disk that lost what was committed may give zeros for it. */
+static void zeros_in_place_of_a_change_are_damage(void) {
+    static struct image zeros;
+    unsigned copies = 0;
+    in_folder(path, "changed");
+    for (int is_open = 0; is_open < 2; is_open++) {
+        zeros = is_open ? sample.open : sample.closed;
+        memset(zeros.at + sample.ends[CHANGES - 1], 0, sample.ends[CHANGES] - sample.ends[CHANGES - 1]);
+        want_damaged(&zeros, CHANGES - 1, &copies);
     }
 }
 
@@ -665,6 +674,7 @@ int main(int count, char **words) {
     each_change_with_a_hole_is_cut_off();
     damage_before_a_hole_is_damage();
     unfilled_space_is_no_damage();
+    zeros_in_place_of_a_change_are_damage();
     a_lost_file_is_told();
     a_full_disk_leaves_the_file();
     a_change_is_rolled_back();
