@@ -450,6 +450,7 @@ static void want_lost(elephant_file *f) {
 }
 
 static void a_lost_file_is_told(void) {
+    static struct image copy;
     char away[NAME];
     elephant_file *f = opened(in_folder(path, "mine"), NULL);
     struct stat had;
@@ -461,6 +462,9 @@ static void a_lost_file_is_told(void) {
     store(&sample.closed, sample.closed.length, path);
     want_lost(f);
     want_holds(path, &sample.closed, 0, sample.closed.length);
+    load(&copy, away);
+    store(&copy, copy.length, path);
+    want_lost(f);
     WANT(!rename(away, path));
     WANT(!truncate(path, had.st_size - 1));
     want_lost(f);

@@ -33,9 +33,11 @@ struct elephant {
 
 static void put(struct text *text, const void *bytes, size_t length) {
     if (text->length + length > text->room) {
+        unsigned char *grown = NULL;
         text->room = 2 * (text->length + length) + 64;
-        text->at = realloc(text->at, text->room);
-        if (!text->at) abort();
+        /* A toy has no code for a refusal: it asks again. */
+        while (!grown) grown = realloc(text->at, text->room);
+        text->at = grown;
     }
     if (length) memcpy(text->at + text->length, bytes, length);
     text->length += length;
