@@ -167,22 +167,17 @@ class Left(NamedTuple):
     most: int
 
 
-def all_left(log: str, folder: Path, throws: int, only_last: bool = False) -> list[Left]:
-    """Returns what a power failure may leave after each call of a log, or only after its last one: all, only what was synced, and what
-    so many throws of the dice choose. The same is returned once."""
+def all_left(log: str, folder: Path, throws: int, after: int = 0) -> list[Left]:
+    """Returns what a power failure may leave once so many lines of a log are done, and after each later one: all, only what was synced,
+    and what so many throws of the dice choose. The same is returned once."""
     disk, dice = Disk(folder), random.Random(len(log))
     found: dict[object, Left] = {}
-
-    def look() -> None:
-        images = [disk.image(None), disk.least_image(), *(disk.image(dice) for _ in range(throws))]
-        for files in images:
+    for done, line in enumerate(["", *log.splitlines()]):
+        if line:
+            disk.take(line)
+        if done < after:
+            continue
+        for files in (disk.image(None), disk.least_image(), *(disk.image(dice) for _ in range(throws))):
             left = Left(files, disk.acknowledged, disk.tried)
             found.setdefault((tuple(sorted(files.items())), left.least, left.most), left)
-
-    for line in log.splitlines():
-        disk.take(line)
-        if not only_last:
-            look()
-    if only_last:
-        look()
     return list(found.values())

@@ -350,10 +350,18 @@ static int32_t read_once(elephant_file *f) {
     return code;
 }
 
-/* What the store has read must not vanish in a power failure after its host acted on it. */
+/* What the store reads must not vanish in a power failure, neither its last changes nor the rename that put the file in its place: the last
+ * owner may have been killed before it synced them. */
+static int32_t make_durable(elephant_file *f) {
+    return sync_data(f->file) ? system_fault(f, "fdatasync") : sync_folder(f);
+}
+
 static int32_t read_in(elephant_file *f) {
     int32_t code = ELEPHANT_OK;
-    if (!f->options.read_only) return sync_data(f->file) ? system_fault(f, "fdatasync") : read_once(f);
+    if (!f->options.read_only) {
+        code = make_durable(f);
+        return code ? code : read_once(f);
+    }
     for (int tries = 0; tries < TRIES; tries++) {
         if (tries) pause_for(PAUSE_MS);
         elephant_close(f->store);

@@ -4,6 +4,7 @@
  *     file_saves run PATH COUNT COMPACT SYNC VERSIONS   makes COUNT changes after the last one of the file. After each commit it prints
  *                                              "ack N"; with SYNC > 1 only after each so many, when it asked for the disk. After
  *                                              each COMPACT changes it compacts. The store may make so many VERSIONS.
+ *     file_saves peek PATH COUNT               looks into the file so many times, while another program may be writing it
  *     file_saves check                         for each path that it reads prints "has N", goes on with a change, and finds that too
  *
  * A change is two saves, of the same number. */
@@ -120,6 +121,28 @@ static int run(const char *path, uint64_t count, uint64_t compact, uint64_t sync
     return 0;
 }
 
+/* What a reader sees is never older than what it saw before. */
+static int peek(const char *path, uint64_t count) {
+    const elephant_file_options options = {.read_only = 1};
+    uint64_t last = 0;
+    for (uint64_t seen = 0; seen < count; seen++) {
+        elephant_file_fault fault;
+        elephant_file *f;
+        const int32_t code = elephant_file_open(path, &options, &f, &fault);
+        uint64_t number;
+        if (code) {
+            complain(path, code, &fault);
+            return 3;
+        }
+        number = number_in(elephant_file_store(f));
+        elephant_file_close(f);
+        WANT(number >= last);
+        last = number;
+    }
+    say("has", last);
+    return 0;
+}
+
 /* A store that was found must go on, and be found again. */
 static int look(const char *path) {
     uint64_t number;
@@ -144,6 +167,7 @@ int main(int count, char **words) {
         versions = strtoull(words[6], NULL, 10);
         return run(words[2], strtoull(words[3], NULL, 10), strtoull(words[4], NULL, 10), strtoull(words[5], NULL, 10));
     }
+    if (count == 4 && !strcmp(words[1], "peek")) return peek(words[2], strtoull(words[3], NULL, 10));
     if (count != 2 || strcmp(words[1], "check")) return 2;
     while (fgets(line, sizeof line, stdin)) {
         line[strcspn(line, "\n")] = 0;

@@ -203,6 +203,7 @@ static void no_file_is_refused(void) {
 
 /* ---- Other openers ---- */
 
+/* It waits for the lock of the file that it opened, and then for that of the file that has taken its place. */
 static void a_second_opener_waits(void) {
     const elephant_file_options patient = {.wait = 10000}, hasty = {.wait = 30};
     elephant_file *f = opened(in_folder(path, "locked"), NULL);
@@ -216,9 +217,10 @@ static void a_second_opener_waits(void) {
     if (!child) {
         f = opened(path, NULL);
         commit(f, 1);
-        OK(elephant_file_compact(f));
         store(&sample.open, 1, in_folder(other, "is locked"));
-        nanosleep(&(struct timespec){0, 200000000}, NULL);
+        nanosleep(&(struct timespec){0, 100000000}, NULL);
+        OK(elephant_file_compact(f));
+        nanosleep(&(struct timespec){0, 100000000}, NULL);
         commit(f, 2);
         elephant_file_close(f);
         _exit(0);
