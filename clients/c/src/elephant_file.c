@@ -87,6 +87,13 @@ static int32_t damage_at(elephant_file *f, uint64_t place) {
 
 /* ---- Calls of the system, until they are done ---- */
 
+static int open_file(const char *path, int flags) {
+    int file;
+    do file = open(path, flags | O_CLOEXEC, 0600);
+    while (file < 0 && errno == EINTR);
+    return file;
+}
+
 static int sync_data(int file) {
     int failed;
     /* A call that a signal interrupted has not failed to write anything. */
@@ -139,7 +146,7 @@ static int32_t sync_folder(elephant_file *f) {
     char *end = strrchr(f->path, '/');
     int folder, failed;
     *end = 0;
-    folder = open(*f->path ? f->path : "/", O_RDONLY | O_DIRECTORY | O_CLOEXEC);
+    folder = open_file(*f->path ? f->path : "/", O_RDONLY | O_DIRECTORY);
     *end = '/';
     if (folder < 0) return system_fault(f, "open");
     failed = sync_all(folder) ? system_fault(f, "fsync") : 0;
@@ -302,7 +309,7 @@ static int make_copy(elephant_file *f, char *name, size_t room) {
     int file = -1;
     for (f->info.copy = 1; file < 0; f->info.copy += file < 0) {
         snprintf(name, room, "%s.damaged-%llu", f->path, (unsigned long long)f->info.copy);
-        file = open(name, O_WRONLY | O_CREAT | O_EXCL | O_CLOEXEC, 0600);
+        file = open_file(name, O_WRONLY | O_CREAT | O_EXCL);
         if (file < 0 && errno != EEXIST) break;
     }
     return file;
@@ -442,8 +449,11 @@ int32_t elephant_file_sync(elephant_file *f) {
 
 static int32_t lock(elephant_file *f, int file) {
     for (uint32_t waited = 0;; waited += PAUSE_MS) {
-        if (!flock(file, LOCK_EX | LOCK_NB)) return ELEPHANT_OK;
-        if (errno != EWOULDBLOCK && errno != EINTR) return system_fault(f, "flock");
+        int failed;
+        do failed = flock(file, LOCK_EX | LOCK_NB);
+        while (failed && errno == EINTR);
+        if (!failed) return ELEPHANT_OK;
+        if (errno != EWOULDBLOCK) return system_fault(f, "flock");
         if (waited >= f->options.wait) return ELEPHANT_FILE_LOCKED;
         pause_for(PAUSE_MS);
     }
@@ -471,7 +481,7 @@ static void put_in_place(elephant_file *f, int file, const struct stat *identity
 /* Makes the new file. Its maker has this one's lock, so a file of that name is what a killed process left. */
 static int32_t make_spare(elephant_file *f, int *file) {
     if (unlink(f->spare) && errno != ENOENT) return system_fault(f, "unlink");
-    *file = open(f->spare, O_RDWR | O_CREAT | O_EXCL | O_CLOEXEC, 0600);
+    *file = open_file(f->spare, O_RDWR | O_CREAT | O_EXCL);
     return *file < 0 ? system_fault(f, "open") : ELEPHANT_OK;
 }
 
@@ -593,7 +603,8 @@ int32_t elephant_file_renew(elephant_file *f) {
     return f->options.read_only ? ELEPHANT_FILE_READ_ONLY : renew(f, false, &is_done);
 }
 
-/* What a commit and an opening do by themselves. What is refused is tried again later, and not at each commit, since it copies the whole store. */
+/* What a commit and an opening do by themselves. What is refused is tried again later, and not at each commit, since it copies the whole
+ * store. */
 static void tidy(elephant_file *f) {
     uint64_t reached = 0;
     bool is_done = false;
@@ -614,17 +625,16 @@ static void tidy(elephant_file *f) {
 /* Opens the file, or makes an empty one. */
 static int32_t open_or_make(elephant_file *f, const char *path) {
     /* Without a wait for the other end of a pipe. */
-    const int flags = O_CLOEXEC | O_NOCTTY | O_NONBLOCK | (f->options.read_only ? O_RDONLY : O_RDWR);
+    const int flags = O_NOCTTY | O_NONBLOCK | (f->options.read_only ? O_RDONLY : O_RDWR);
     f->info.is_new = 0;
     for (;;) {
-        f->file = open(path, flags);
+        f->file = open_file(path, flags);
         if (f->file >= 0) return ELEPHANT_OK;
-        if (errno == EINTR) continue;
         if (errno != ENOENT || f->options.read_only) return system_fault(f, "open");
-        f->file = open(path, flags | O_CREAT | O_EXCL, 0600);
+        f->file = open_file(path, flags | O_CREAT | O_EXCL);
         f->info.is_new = f->file >= 0;
         if (f->file >= 0) return ELEPHANT_OK;
-        if (errno != EEXIST && errno != EINTR) return system_fault(f, "open");
+        if (errno != EEXIST) return system_fault(f, "open");
     }
 }
 

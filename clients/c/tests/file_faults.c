@@ -10,7 +10,7 @@
 #include <sys/stat.h>
 #include <sys/types.h>
 
-enum { HALF = 0, KILL = 1000, KILL_WITHIN = 1001 };
+enum { HALF = 0, KILL = 1000, KILL_WITHIN = 1001, HALF_FIRST = 1002 };
 
 static unsigned long calls, first, count, kind;
 static FILE *the_log;
@@ -65,13 +65,18 @@ static int is_chosen(void) {
 
 /* Whether a call fails, which it does with an error's number. */
 static int fails_if(int chosen) {
-    if (!chosen || kind == HALF || kind == KILL_WITHIN) return 0;
-    errno = (int)kind;
+    if (!chosen || kind == HALF || kind == KILL_WITHIN || (kind == HALF_FIRST && calls == first)) return 0;
+    errno = kind == HALF_FIRST ? EIO : (int)kind;
     return 1;
 }
 
 static int fails(void) {
     return fails_if(is_chosen());
+}
+
+/* The same of a call that never waits. */
+static int fails_at_once(void) {
+    return fails_if(is_chosen() && kind != EINTR);
 }
 
 static void log_bytes(const unsigned char *bytes, size_t length) {
@@ -142,14 +147,14 @@ int __wrap_ftruncate(int file, off_t length) {
 }
 
 int __wrap_rename(const char *from, const char *to) {
-    if (fails()) return -1;
+    if (fails_at_once()) return -1;
     if (the_log) fprintf(the_log, "rename %s %s\n", from, to);
     return __real_rename(from, to);
 }
 
 int __wrap_unlink(const char *path) {
     int failed;
-    if (fails()) return -1;
+    if (fails_at_once()) return -1;
     failed = __real_unlink(path);
     if (the_log && !failed) fprintf(the_log, "unlink %s\n", path);
     return failed;
@@ -160,17 +165,17 @@ int __wrap_flock(int file, int how) {
 }
 
 int __wrap_fchmod(int file, mode_t mode) {
-    return fails() ? -1 : __real_fchmod(file, mode);
+    return fails_at_once() ? -1 : __real_fchmod(file, mode);
 }
 
 int __wrap_fchown(int file, uid_t user, gid_t group) {
-    return fails() ? -1 : __real_fchown(file, user, group);
+    return fails_at_once() ? -1 : __real_fchown(file, user, group);
 }
 
 int __wrap_stat(const char *path, struct stat *found) {
-    return fails() ? -1 : __real_stat(path, found);
+    return fails_at_once() ? -1 : __real_stat(path, found);
 }
 
 int __wrap_fstat(int file, struct stat *found) {
-    return fails() ? -1 : __real_fstat(file, found);
+    return fails_at_once() ? -1 : __real_fstat(file, found);
 }

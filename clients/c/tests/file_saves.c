@@ -5,7 +5,7 @@
  *                                              "ack N"; with SYNC > 1 only after each so many, when it asked for the disk. After
  *                                              each COMPACT changes it compacts. The store may make so many VERSIONS.
  *     file_saves peek PATH COUNT               looks into the file so many times, while another program may be writing it
- *     file_saves check                         for each path that it reads prints "has N", goes on with a change, and finds that too
+ *     file_saves check VERSIONS                for each path that it reads prints "has N", goes on with a change, and finds that too
  *
  * A change is two saves, of the same number. */
 #define _DEFAULT_SOURCE
@@ -57,7 +57,7 @@ static uint64_t number_in(elephant *e) {
 
 static void change(elephant *e, uint64_t number) {
     uint64_t version, removed, finished;
-    if (number == 1) OK(elephant_default(e, TEXT("/"), TEXT("one")));
+    if (!number_in(e)) OK(elephant_default(e, TEXT("/"), TEXT("one")));
     for (int of = 0; of < 2; of++) {
         const size_t length = content_of(number, of);
         OK(elephant_save(e, TEXT(paths[of]), content, length, &version));
@@ -88,17 +88,36 @@ static elephant_file *opened(const char *path, uint32_t sync) {
     return NULL;
 }
 
-/* Commits, or tries again, and at last by a new file. Returns whether the change is in the file. */
-static int is_kept(elephant_file *f, int32_t (*commit)(elephant_file *)) {
+static void complain_of(elephant_file *f, int32_t code) {
+    elephant_file_fault fault;
+    elephant_file_last_fault(f, &fault);
+    complain("commit", code, &fault);
+}
+
+/* Makes a call, or tries again, and at last writes a new file. Returns whether all is in the file. */
+static int is_kept(elephant_file *f, int32_t (*call)(elephant_file *)) {
     for (int tries = 0; tries < TRIES; tries++) {
-        elephant_file_fault fault;
-        const int32_t code = commit(f);
+        const int32_t code = call(f);
         if (!code) return 1;
-        elephant_file_last_fault(f, &fault);
-        complain("commit", code, &fault);
-        if (code == ELEPHANT_FILE_STUCK) commit = elephant_file_compact;
+        complain_of(f, code);
+        if (code == ELEPHANT_FILE_STUCK) call = elephant_file_compact;
     }
     return 0;
+}
+
+/* Makes a change and commits it. If that fails, every other one is given up, and the next one made in its place. */
+static int is_changed(elephant_file *f, uint64_t *number) {
+    int32_t code;
+    change(elephant_file_store(f), ++*number);
+    note_in_log("try", *number);
+    code = elephant_file_commit(f);
+    if (!code) return 1;
+    complain_of(f, code);
+    if (*number % 2 && !elephant_file_rollback(f)) {
+        change(elephant_file_store(f), ++*number);
+        note_in_log("try", *number);
+    }
+    return is_kept(f, elephant_file_commit);
 }
 
 static int run(const char *path, uint64_t count, uint64_t compact, uint64_t sync) {
@@ -108,9 +127,7 @@ static int run(const char *path, uint64_t count, uint64_t compact, uint64_t sync
     number = number_in(elephant_file_store(f));
     say("has", number);
     for (uint64_t made = 1; made <= count; made++) {
-        change(elephant_file_store(f), ++number);
-        note_in_log("try", number);
-        if (!is_kept(f, elephant_file_commit)) break;
+        if (!is_changed(f, &number)) break;
         if (sync > 1 && made % sync) continue;
         if (sync > 1 && !is_kept(f, elephant_file_sync)) break;
         say("ack", number);
@@ -168,7 +185,8 @@ int main(int count, char **words) {
         return run(words[2], strtoull(words[3], NULL, 10), strtoull(words[4], NULL, 10), strtoull(words[5], NULL, 10));
     }
     if (count == 4 && !strcmp(words[1], "peek")) return peek(words[2], strtoull(words[3], NULL, 10));
-    if (count != 2 || strcmp(words[1], "check")) return 2;
+    if (count != 3 || strcmp(words[1], "check")) return 2;
+    versions = strtoull(words[2], NULL, 10);
     while (fgets(line, sizeof line, stdin)) {
         line[strcspn(line, "\n")] = 0;
         if (look(line)) say("lost", (uint64_t)++wrong);

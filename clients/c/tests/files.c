@@ -1,5 +1,5 @@
-/* A store in a file: what an opening finds in a file that was cut or changed anywhere, who may open it, what a commit does if the file isn't
- * its own any more or the disk is full, and files that take its place.
+/* A store in a file: what an opening finds in a file that was cut or changed anywhere, who may open it, what a commit does if the file
+ * isn't its own any more or the disk is full, and files that take its place.
  *
  *     files FOLDER         makes its files in that folder, which is empty
  */
@@ -617,6 +617,9 @@ static void a_renewal_gives_fresh_numbers(void) {
         OK(elephant_file_commit(f));
     }
     WANT(versions_of(f) == 19 && info_of(f).renewals == 0);
+    elephant_file_close(f);
+    f = opened(path, &options);
+    WANT(versions_of(f) == 19 && info_of(f).renewals == 0);
     OK(elephant_open_read(elephant_file_store(f), TEXT("/f"), ELEPHANT_NOW, 0, &handle));
     CODE(ELEPHANT_HANDLES_OPEN, elephant_file_renew(f));
     WANT(versions_of(f) == 19 && info_of(f).renewals == 0);
@@ -643,6 +646,21 @@ static void a_store_goes_on_by_itself(void) {
     WANT(info_of(f).renewals >= 10 && info_of(f).tidied == ELEPHANT_OK);
     elephant_file_close(f);
     want_has(path, 199);
+}
+
+/* A kill may come between the commit and the renewal. */
+static void an_opening_renews_by_itself(void) {
+    elephant_file_options options = {.limits = &few, .no_renewal = 1};
+    elephant_file *f = opened(in_folder(path, "nearly full"), &options);
+    for (unsigned number = 1; number < 19; number++) {
+        change_short(f, number);
+        OK(elephant_file_commit(f));
+    }
+    elephant_file_close(f);
+    options.no_renewal = 0;
+    f = opened(path, &options);
+    WANT(versions_of(f) == 1 && info_of(f).renewals == 1 && number_in(f) == 18);
+    elephant_file_close(f);
 }
 
 /* If half of the limit is held, a renewal would soon be due again. */
@@ -690,6 +708,7 @@ int main(int count, char **words) {
     a_long_file_is_compacted(true);
     a_renewal_gives_fresh_numbers();
     a_store_goes_on_by_itself();
+    an_opening_renews_by_itself();
     a_full_store_is_not_renewed();
     puts("files: as the header says");
     return 0;
