@@ -95,10 +95,15 @@ static int open_file(const char *path, int flags) {
 }
 
 static int sync_data(int file) {
-    int failed;
+    int failed, error;
     /* A call that a signal interrupted has not failed to write anything. */
     do failed = fdatasync(file);
     while (failed && errno == EINTR);
+    if (!failed) return 0;
+    /* The system may go on showing what it couldn't write. The next opening is to read what the disk has. */
+    error = errno;
+    posix_fadvise(file, 0, 0, POSIX_FADV_DONTNEED);
+    errno = error;
     return failed;
 }
 

@@ -3,7 +3,8 @@
  *
  *     file_saves run PATH COUNT COMPACT SYNC VERSIONS   makes COUNT changes after the last one of the file. After each commit it prints
  *                                              "ack N"; with SYNC > 1 only after each so many, when it asked for the disk. After
- *                                              each COMPACT changes it compacts. The store may make so many VERSIONS.
+ *                                              each COMPACT changes it compacts, and after half of all it opens the file anew. The
+ *                                              store may make so many VERSIONS.
  *     file_saves peek PATH COUNT               looks into the file so many times, while another program may be writing it
  *     file_saves check VERSIONS                for each path that it reads prints "has N", goes on with a change, and finds that too
  *
@@ -77,6 +78,9 @@ static void complain(const char *what, int32_t code, const elephant_file_fault *
             fault->system ? strerror(fault->system) : "", fault->place);
 }
 
+/* The call of the system by which the last opening failed. */
+static const char *failed_call = "";
+
 static elephant_file *opened(const char *path, uint32_t sync) {
     const elephant_limits limits = {1000, 100, 100, 1000, versions, 1000, 10, 10, 10};
     const elephant_file_options options = {.limits = &limits, .sync = sync};
@@ -85,6 +89,7 @@ static elephant_file *opened(const char *path, uint32_t sync) {
     const int32_t code = elephant_file_open(path, &options, &f, &fault);
     if (!code) return f;
     complain(path, code, &fault);
+    failed_call = fault.call;
     return NULL;
 }
 
@@ -120,14 +125,29 @@ static int is_changed(elephant_file *f, uint64_t *number) {
     return is_kept(f, elephant_file_commit);
 }
 
+/* Closes the file and opens it again, which makes all of it durable. After a failed sync it stops, since the memory here still has what a
+ * disk has lost. */
+static elephant_file *reopened(elephant_file *f, const char *path, uint32_t how, uint64_t number) {
+    elephant_file_close(f);
+    f = opened(path, how);
+    if (!f && strcmp(failed_call, "fdatasync")) f = opened(path, how);
+    if (!f) return NULL;
+    WANT(number_in(elephant_file_store(f)) == number);
+    note_in_log("has", number);
+    return f;
+}
+
 static int run(const char *path, uint64_t count, uint64_t compact, uint64_t sync) {
-    elephant_file *f = opened(path, sync > 1 ? ELEPHANT_FILE_SYNC_ASKED : ELEPHANT_FILE_SYNC_EACH);
+    const uint32_t how = sync > 1 ? ELEPHANT_FILE_SYNC_ASKED : ELEPHANT_FILE_SYNC_EACH;
+    elephant_file *f = opened(path, how);
     uint64_t number;
     if (!f) return 3;
     number = number_in(elephant_file_store(f));
     say("has", number);
     for (uint64_t made = 1; made <= count; made++) {
         if (!is_changed(f, &number)) break;
+        if (made == count / 2) f = reopened(f, path, how, number);
+        if (!f) return 3;
         if (sync > 1 && made % sync) continue;
         if (sync > 1 && !is_kept(f, elephant_file_sync)) break;
         say("ack", number);
