@@ -12,7 +12,7 @@ use Rattle.ele_tool_words.specs.Length.{SpellsLength}
 use Rattle.ele_invocation.specs.Forecasts.{IsForeign, IsOverTime, IsPlain}
 use Rattle.ele_invocation.specs.Unread.{NoneAsks}
 use Rattle.ele_invocation.specs.declared.reading.Unread.{Unread}
-use Rattle.ele_invocation.specs.declared.reading.Unread.TheVariants.{Because, NoMemory}
+use Rattle.ele_invocation.specs.declared.reading.Unread.TheVariants.{Because, BadRule, NoMemory}
 
 -- a word that spells nothing
 pub none_zips : {A B C : Type 0} (f : C → A) (R : A → B → Type 0) (xs : List C) (ys : List B) (i : ℕ) (d : C) → i < length xs → ((y : B) → ¬ R (f (get_or xs i d)) y) → ¬ AllZip R (map f xs) ys
@@ -20,6 +20,12 @@ none_zips f R [] ys i d lt bad all = absurd (omega (arith, lt))
 none_zips f R (w ∷ xs) [] i d lt bad all = all
 none_zips f R (w ∷ xs) (y ∷ ys) zero d lt bad all = bad y all.0
 none_zips f R (w ∷ xs) (y ∷ ys) (suc i) d lt bad all = none_zips f R xs ys i d (omega (arith, lt)) bad all.1
+
+-- a word that asks for nothing
+pub none_zipped : {A B C : Type 0} (f : C → A) (R : A → B → Type 0) (xs : List C) (i : ℕ) (d : C) (why : Unread) → i < length xs → NoneAsks (R (f (get_or xs i d))) why → NoneAsks (AllZip R (map f xs)) why
+none_zipped f R xs i d (Because text) lt none = λ ys. none_zips f R xs ys i d lt none
+none_zipped f R xs i d (BadRule fault) lt none = λ ys. none_zips f R xs ys i d lt none
+none_zipped f R xs i d NoMemory lt none = tt
 
 -- what a script reads in a word
 pub read_or_not : (word : List ℕ) (r : Result Policy LineFault) → ReadsPolicy word r → MatchBool (is_ok r) (IsPlain word) (IsForeign word)
@@ -44,6 +50,7 @@ if_none (Some x) Q f = tt
 -- what asks for more is asked for no more
 pub none_weaker : {X Y : Type 0} (P : X → Type 0) (Q : Y → Type 0) (why : Unread) → ((y : Y) → Q y → (x : X) × P x) → NoneAsks P why → NoneAsks Q why
 none_weaker P Q (Because text) f none = λ y q. none (f y q).0 (f y q).1
+none_weaker P Q (BadRule fault) f none = λ y q. none (f y q).0 (f y q).1
 none_weaker P Q NoMemory f none = tt
 
 -- the values of an option, or none

@@ -1,16 +1,21 @@
 -- Which forecast the matches of `forecast` ask for.
-use Rattle.std.specs.Prelude.{◌≡◌, ◌+◌, ◌<◌, ◌≤◌, ◌==◌, ◌&&◌, if◌then◌else◌, MatchOption, ℕ, Bool, true, false, List, [], Ok, Err, Some, length, unwrap_or, codes}
+use Rattle.std.specs.Prelude.{◌≡◌, ◌+◌, ◌<◌, ◌≤◌, ◌==◌, ◌&&◌, ◌||◌, if◌then◌else◌, MatchOption, ℕ, Bool, true, false, List, [], Ok, Err, Option, Some, None, length, unwrap_or, codes}
 use Rattle.std.specs.Int.{from_bool}
 use Rattle.std.specs.List.{All, AllZip, Any}
 use Rattle.ele_outlook.specs.declared.options.Form.{Form}
 use Rattle.ele_outlook.specs.declared.options.Form.TheVariants.{Table, Drawing, Due, Kept, Json, Csv, Every}
 use Rattle.ele_outlook.specs.declared.options.ForecastOptions.{ForecastOptions}
+use Rattle.ele_peer_rules.specs.Words.{MeansRule}
 use Rattle.ele_policy.specs.declared.policy.Policy.{Policy}
 use Rattle.ele_printer.specs.declared.fault.LineFault.{LineFault}
+use Rattle.ele_rule_forecast.specs.declared.judged.AskedRule.{AskedRule}
 use Rattle.ele_script.specs.PolicyWord.{ReadsPolicy}
 use Rattle.ele_tool_words.specs.Length.{SpellsLength}
 use Rattle.ele_tool_words.specs.PolicyWord.{MeansPolicy}
 use Rattle.ele_tool_words.specs.Time.{SpellsTime}
+use Rattle.ele_tool_words.specs.Zone.{SpellsZone}
+use Rattle.ele_tool_words.specs.declared.zone.Offset.{Offset}
+use Rattle.ele_tool_words.specs.declared.zone.Offset.TheVariants.{Ahead}
 use Rattle.ele_invocation.specs.Matches.{is_given, is_on, values_of}
 use Rattle.clap.specs.Words.{Row, Text, all_of, first_of}
 
@@ -57,12 +62,32 @@ IsPlain word = (policy : Policy) × ReadsPolicy word (Ok policy)
 abbrev pub IsForeign : Text → Type 0
 IsForeign word = (fault : LineFault) × ReadsPolicy word (Err fault)
 
+-- rules of other tools are for tables, JSON and CSV
+abbrev pub takes_rules : Form → Bool
+takes_rules Table = true
+takes_rules Json = true
+takes_rules Csv = true
+takes_rules Drawing = false
+takes_rules Due = false
+takes_rules Kept = false
+takes_rules (Every step) = false
+
+-- the word means the rule
+pub record AsksRule (word : Text) (asked : AskedRule) : Type 0 where
+  pub word_is : asked.word.items ≡ word
+  pub means : MeansRule word asked.rule.tool asked.rule.parts.items
+
+-- the offset that `--offset` spells, or UTC
+abbrev pub IsClock : Option Text → Offset → Type 0
+IsClock None clock = clock ≡ Ahead 0
+IsClock (Some word) clock = SpellsZone word clock
+
 -- whether some word is one that a script refuses
 abbrev pub IsNamed : List Text → Bool → Type 0
 IsNamed words true = Any IsForeign words
 IsNamed words false = All IsPlain words
 
--- the forecast under the policies that the words mean, in their order, at the moments that the others spell
+-- the forecast under the policies and rules that the words mean, in their order, at the moments that the others spell
 pub record AsksForecast (rows : List Row) (ask : ForecastOptions) : Type 0 where
   pub words : List Text
   pub given : all_of (codes "policy") rows ≡ Some words
@@ -70,8 +95,11 @@ pub record AsksForecast (rows : List Row) (ask : ForecastOptions) : Type 0 where
   pub policies : AllZip MeansPolicy words ask.policies.items
   pub named : IsNamed words ask.named
   pub moments : AllZip SpellsTime (values_of (codes "at") rows) ask.moments.items
+  pub rules : AllZip AsksRule (values_of (codes "rule") rows) ask.rules.items
+  pub clock : IsClock (first_of (codes "offset") rows) ask.clock
   pub labels : ask.labels ≡ is_on (codes "labels") rows
   pub sizes : ask.sizes ≡ is_on (codes "sizes") rows
   pub title : ask.title.items ≡ unwrap_or (first_of (codes "title") rows) []
   pub form : IsForm rows ask.form
+  pub ruled : (takes_rules ask.form || (length (values_of (codes "rule") rows) == 0)) ≡ true
   pub suited : suits ask.form (length words) (length (values_of (codes "at") rows)) ≡ true

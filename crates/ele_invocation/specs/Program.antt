@@ -38,7 +38,8 @@ storm_shape = command_shape (codes "storm") (default_rule (codes "writers") (cod
 abbrev pub forecast_shape : Shape
 forecast_shape = command_shape (codes "forecast") (required_rule (codes "policy") ∷ repeated_rule (codes "at")
     ∷ option_rule (codes "every") ∷ flag_rule (codes "labels") ∷ flag_rule (codes "sizes") ∷ option_rule (codes "list")
-    ∷ flag_rule (codes "svg") ∷ option_rule (codes "title") ∷ flag_rule (codes "json") ∷ flag_rule (codes "csv") ∷ [])
+    ∷ flag_rule (codes "svg") ∷ option_rule (codes "title") ∷ flag_rule (codes "json") ∷ flag_rule (codes "csv")
+    ∷ repeated_rule (codes "rule") ∷ option_rule (codes "offset") ∷ [])
 
 -- prints the topic of that name
 abbrev pub script_shape : Shape

@@ -7,6 +7,7 @@ ghost use Rattle.clap.specs.Words.{found_of, rows_of};
 
 use crate::invocation::{Invocation, command_of, flag, not_understood, option};
 use crate::reading::{Unread, read_forecast};
+use crate::rules::bad_rule;
 use clap::{ArgAction, ArgMatches, Command};
 use std::alloc::{AllocError, Global};
 
@@ -19,6 +20,10 @@ oldest first: 2026-01-31T12:00:00Z, 2026-01-31 or seconds since 1970.
 A policy is one, all, standard, safe:LENGTH, safe:LENGTH/FLOOR or
 landmarks:AGE/WIDTH,.. ('elephant help policies'). AGE, WIDTH and LENGTH are
 seconds, or a number with s, m, h, d, w or y, as 7d.
+
+A rule is a tool, a colon and the tool's options: restic:keep-last=3,keep-daily=7
+or borg:keep-within=30d,keep-weekly=4. It keeps by the days, weeks and months of
+the clock of each time.
 
 Example:
   printf '2026-01-01\\n2026-01-02\\n' | elephant forecast --policy safe:7d";
@@ -48,6 +53,12 @@ const LIST: &str = "Print only the versions that are `due` or `kept` at the\n\
     moment of --at: their labels, or without --labels their\n\
     numbers";
 
+const RULE: &str = "Also print what a rule of another tool keeps, beside the\n\
+    policies; can be given several times";
+
+const OFFSET: &str = "Read times without an offset by a clock of this one, as\n\
+    +05:30";
+
 /// Returns the arguments of a forecast, as clap reads them.
 pub(crate) fn forecast<'a>(alloc: Global) -> Result<Command<'a>, AllocError>
     ensures { IfOk result (HasShape forecast_shape) }
@@ -56,6 +67,7 @@ pub(crate) fn forecast<'a>(alloc: Global) -> Result<Command<'a>, AllocError>
         .action(ArgAction::Append)
         .required(true);
     let at = option(alloc, "at", "M", AT).action(ArgAction::Append);
+    let rule = option(alloc, "rule", "RULE", RULE).action(ArgAction::Append);
     command_of(alloc, "forecast", FORECAST, MORE)
         .arg(policy)?
         .arg(at)?
@@ -66,7 +78,9 @@ pub(crate) fn forecast<'a>(alloc: Global) -> Result<Command<'a>, AllocError>
         .arg(flag(alloc, "svg", SVG))?
         .arg(option(alloc, "title", "TEXT", TITLE))?
         .arg(flag(alloc, "json", JSON))?
-        .arg(flag(alloc, "csv", CSV))
+        .arg(flag(alloc, "csv", CSV))?
+        .arg(rule)?
+        .arg(option(alloc, "offset", "OFFSET", OFFSET))
 }
 
 /// Returns what the arguments of a forecast ask for.
@@ -76,6 +90,7 @@ pub(crate) fn asked_forecast(alloc: Global, forecast: &ArgMatches) -> Invocation
     match read_forecast(alloc, forecast) {
         Ok(ask) => Invocation::Forecast(ask),
         Err(Unread::Because(why)) => not_understood(alloc, why),
+        Err(Unread::BadRule(fault)) => bad_rule(alloc, fault),
         Err(Unread::NoMemory) => Invocation::NoMemory,
     }
 }

@@ -6,6 +6,7 @@ mod forecast;
 mod invocation;
 mod matches;
 mod reading;
+mod rules;
 mod run;
 mod storm;
 mod topics;

@@ -4,6 +4,8 @@ ghost use Rattle.std.specs.Prelude.{
   ◌≡◌,
   ◌↔◌,
   ◌≤◌,
+  ◌==◌,
+  ◌||◌,
   [],
   IfErr,
   IfOk,
@@ -30,15 +32,18 @@ ghost use Rattle.ele_invocation.specs.Forecasts.{
   IsPlain,
   flagged_form,
   suits,
+  takes_rules,
 };
 ghost use Rattle.ele_invocation.specs.Unread.{NoneAsks};
 ghost use Rattle.ele_invocation.specs.declared.reading.Unread.TheVariants as unread;
 ghost use Rattle.clap.specs.Words.{first_of, found_of, rows_of};
 
 use crate::matches::{is_on, value_of, values_of};
+use crate::rules::{clock_in, rules_in};
 use clap::ArgMatches;
 use ele_moment::Moment;
 use ele_outlook::{ForecastOptions, Form, MOST_POLICIES};
+use ele_peer_rules::RuleFault;
 use ele_policy::Policy;
 use ele_tool_words::{read_length, read_policy, read_time};
 use std::alloc::{AllocError, AllocFailed, Global};
@@ -60,6 +65,9 @@ const MANY_POLICIES: &str = "error: --policy is given at most 16 times\n\n\
 const TWO_FORMS: &str = "error: --every, --list, --svg, --json and --csv exclude each other\n\n\
     For more information, try 'elephant forecast --help'.\n";
 
+const BAD_FORM: &str = "error: --rule is for the table, --json and --csv\n\n\
+    For more information, try 'elephant forecast --help'.\n";
+
 const BAD_EVERY: &str = "error: --every takes a length as 3600, 90m, 7d or 1y, and no --at\n\n\
     For more information, try 'elephant forecast --help'.\n";
 
@@ -68,6 +76,8 @@ const BAD_EVERY: &str = "error: --every takes a length as 3600, 90m, 7d or 1y, a
 pub(crate) enum Unread {
     /// They ask for none, for the reason in this text.
     Because(&'static str),
+    /// They ask for none, since a rule has this fault.
+    BadRule(RuleFault),
     /// There is no memory for its lists.
     NoMemory,
 }
@@ -166,6 +176,17 @@ fn check_counts(form: Form, policies: usize, moments: usize) -> Result<(), Unrea
     }
 }
 
+// Refuses rules for a form that has none.
+fn check_rules(form: Form, rules: usize) -> Result<(), Unread>
+    ensures { IsOk result ↔ ((takes_rules form || (rules == 0)) ≡ true) }
+{
+    match form {
+        Form::Table | Form::Json | Form::Csv => Ok(()),
+        _ if rules == 0 => Ok(()),
+        _ => Err(Unread::Because(BAD_FORM)),
+    }
+}
+
 // Returns the policies that the words mean.
 fn policies_in(alloc: Global, words: &[&str]) -> Result<Vec<Policy>, Unread>
     ensures read { IfOk result (λ policies. AllZip MeansPolicy
@@ -242,7 +263,9 @@ pub(crate) fn read_forecast(alloc: Global, forecast: &ArgMatches) -> Result<Fore
         return Err(Unread::Because(BAD_POLICY));
     };
     let times = values_of(forecast, "at").unwrap_or(&[]);
+    let names = values_of(forecast, "rule").unwrap_or(&[]);
     check_counts(form, words.len(), times.len())?;
+    check_rules(form, names.len())?;
     let title = title_in(alloc, forecast)?;
     let policies = match policies_in(alloc, words) {
         Ok(policies) => policies,
@@ -252,10 +275,20 @@ pub(crate) fn read_forecast(alloc: Global, forecast: &ArgMatches) -> Result<Fore
         Ok(moments) => moments,
         Err(why) => return Err(why),
     };
+    let rules = match rules_in(alloc, names) {
+        Ok(rules) => rules,
+        Err(why) => return Err(why),
+    };
+    let clock = match clock_in(forecast) {
+        Ok(clock) => clock,
+        Err(why) => return Err(why),
+    };
     Ok(ForecastOptions {
         policies,
         named: is_named(words),
         moments,
+        rules,
+        clock,
         labels: is_on(forecast, "labels"),
         sizes: is_on(forecast, "sizes"),
         title,

@@ -1,5 +1,5 @@
 -- The labels and sizes of lines.
-use Rattle.std.proofs.Common.{◌≡◌, ℕ, Bool, true, false, not, List, [], ◌∷◌, ◌++◌, map, Option, Some, None, Result, Ok, Err, refl, sym, ap, ◌∙◌}
+use Rattle.std.proofs.Common.{◌≡◌, ℕ, Bool, true, false, not, List, [], ◌∷◌, ◌++◌, Option, Some, None, Result, Ok, Err, refl, sym, ap, ◌∙◌}
 use Rattle.std.proofs.lemmas.List.{append-nil, map-append}
 use Rattle.std.specs.Prelude.{decimal}
 use Rattle.ele_moment.specs.Number.{SpellsNumber}
@@ -7,8 +7,9 @@ use Rattle.ele_forecast_text.specs.Details.{words_if}
 use Rattle.ele_forecast_text.specs.declared.details.Columns.{Columns}
 use Rattle.ele_forecast_text.specs.declared.details.Details.{Details}
 use Rattle.ele_outlook.specs.Input.{Asked, HasSize, SpellsLine, label_of, labels_of, size_word, size_words_of, words_of}
-use Rattle.ele_outlook.specs.Reading.{AddsDetails, AddsLine, AreAdded, AreFields, IsSize}
+use Rattle.ele_outlook.specs.Reading.{AddsDetails, AddsFields, AddsLine, AreAdded, AreFields, IsSize}
 use Rattle.ele_outlook.specs.Told.{AreDetails}
+use Rattle.ele_peer_rules.specs.declared.row.Row.{Row}
 use Rattle.ele_outlook.specs.declared.input.ReadLines.{ReadLines}
 use Rattle.ele_outlook.specs.declared.options.LineForm.{LineForm}
 use Rattle.ele_outlook.specs.declared.fault.ForecastFault.{ForecastFault}
@@ -87,12 +88,22 @@ pub size_lacks : (form : LineForm) (line : List ℕ) → not form.columns.sizes 
 size_lacks form line some only = lacks form.columns.sizes (size_word form line) some only
 
 -- what a line says was added, or memory was refused
-pub line_added : {A : Type 0} (form : LineForm) (line : List ℕ) (closing size : ℕ) (label : List ℕ) (old new : ReadLines) (r : Result A ForecastFault) → SpellsLine form line closing → new.closings ≡ old.closings ++ closing ∷ []
-    → AreFields form line size label → AddsDetails size label old.details new.details r → AddsLine form line old new r
-line_added form line closing size label old new (Ok x) spells closings fields added =
-    record { closing = closing; spells = spells; closings = closings; size = size; label = label; fields = fields; added = added }
-line_added form line closing size label old new (Err NoMemory) spells closings fields added = tt
-line_added form line closing size label old new (Err (BadInput number why)) spells closings fields added = absurd added
-line_added form line closing size label old new (Err ReadFault) spells closings fields added = absurd added
-line_added form line closing size label old new (Err TooLong) spells closings fields added = absurd added
-line_added form line closing size label old new (Err WriteFault) spells closings fields added = absurd added
+pub line_added : {A : Type 0} (form : LineForm) (line : List ℕ) (row : Row) (size : ℕ) (label : List ℕ) (old : ReadLines) (closings : List ℕ) (new : ReadLines) (r : Result A ForecastFault) → SpellsLine form line row
+    → closings ≡ old.closings ++ row.moment ∷ [] → AreFields form line size label → AddsFields row size label (record old { closings = closings }) new r → AddsLine form line old new r
+line_added form line row size label old closings new (Ok x) spells more fields added =
+    record { row = row; spells = spells; rows = added.rows; closings = added.closings ∙ more; size = size; label = label; fields = fields; added = added.added }
+line_added form line row size label old closings new (Err NoMemory) spells more fields added = tt
+line_added form line row size label old closings new (Err (BadInput number why)) spells more fields added = absurd added
+line_added form line row size label old closings new (Err ReadFault) spells more fields added = absurd added
+line_added form line row size label old closings new (Err TooLong) spells more fields added = absurd added
+line_added form line row size label old closings new (Err WriteFault) spells more fields added = absurd added
+
+-- a row, a label and a size were added, or memory was refused
+pub fields_added : {A : Type 0} (row : Row) (size : ℕ) (label : List ℕ) (old new : ReadLines) (r : Result A ForecastFault) → new.rows.items ≡ old.rows.items ++ row ∷ [] → new.closings ≡ old.closings
+    → AddsDetails size label old.details new.details r → AddsFields row size label old new r
+fields_added row size label old new (Ok x) rows closings added = record { rows = rows; closings = closings; added = added }
+fields_added row size label old new (Err NoMemory) rows closings added = tt
+fields_added row size label old new (Err (BadInput number why)) rows closings added = absurd added
+fields_added row size label old new (Err ReadFault) rows closings added = absurd added
+fields_added row size label old new (Err TooLong) rows closings added = absurd added
+fields_added row size label old new (Err WriteFault) rows closings added = absurd added

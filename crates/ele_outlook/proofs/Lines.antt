@@ -1,7 +1,7 @@
 -- The lines of an input, and what they say.
 use Rattle.std.proofs.Common.{◌≡◌, ◌≢◌, ℕ, zero, suc, ◌+◌, ◌<◌, ◌≤◌, ◌==◌, Bool, true, false, List, [], ◌∷◌, ◌++◌, length, take, drop, get_or, Option, Some, None, Err, refl, sym, ap, subst, ◌∙◌, arith, append_assoc}
 use Rattle.std.proofs.lemmas.Bool.{ne_eqb, eq-eqb, eqb-true}
-use Rattle.std.proofs.lemmas.List.{append-nil, length-append, length-take-le}
+use Rattle.std.proofs.lemmas.List.{append-nil, length-append, length-take-le, map-append}
 use Rattle.std.proofs.lemmas.List.Elements.{All-nil, All-cons}
 use Rattle.std.proofs.lemmas.List.Splits.{length-slice_split, slice_split_at, slice_split_none}
 use Rattle.std.proofs.KnownBytes.{Consumes-trans}
@@ -10,9 +10,10 @@ use Rattle.std.specs.List.{All, AllZip, slice_split}
 use Rattle.memchr.specs.Find.{IsFirstByte, is_byte}
 use Rattle.ele_lists.specs.Lists.{AllLater}
 use Rattle.ele_lists.proofs.Taken.{cut-at}
-use Rattle.ele_outlook.specs.Input.{SpellClosings, SpellsLine, label_of, labels_of, lines_of, size_word, size_words_of, without_empty_last}
-use Rattle.ele_outlook.specs.Reading.{FailsToAdd, HaveRead, IsWithLine, ReadsLines}
+use Rattle.ele_outlook.specs.Input.{IsBad, SpellsLine, closings_of, label_of, labels_of, lines_of, size_word, size_words_of, without_empty_last}
+use Rattle.ele_outlook.specs.Reading.{AreRead, FailsToAdd, HaveRead, IsWithLine, ReadsLines}
 use Rattle.ele_outlook.specs.Told.{AreDetails}
+use Rattle.ele_peer_rules.specs.declared.row.Row.{Row}
 use Rattle.ele_outlook.specs.declared.input.ReadLines.{ReadLines}
 use Rattle.ele_outlook.proofs.Detailed.{details_more, no_words}
 use Rattle.ele_outlook.specs.declared.options.LineForm.{LineForm}
@@ -58,23 +59,24 @@ pub only_line : (rest : List ℕ) → IsFirstByte (is_byte 10) rest None → 0 <
 only_line [] h some = absurd (omega (arith, some))
 only_line (byte ∷ bytes) h some = ap without_empty_last (slice_split_none is_feed (byte ∷ bytes) (plain_all (byte ∷ bytes) h))
 
-zip_push : (form : LineForm) (words : List (List ℕ)) (closings : List ℕ) (word : List ℕ) (closing : ℕ) → AllZip (SpellsLine form) words closings → SpellsLine form word closing → AllZip (SpellsLine form) (words ++ word ∷ []) (closings ++ closing ∷ [])
-zip_push form [] [] word closing all is = (is, tt)
-zip_push form (w ∷ words) (c ∷ closings) word closing all is = (all.0, zip_push form words closings word closing all.1 is)
-zip_push form words closings word closing all is = grind arith
+zip_push : (form : LineForm) (words : List (List ℕ)) (rows : List Row) (word : List ℕ) (row : Row) → AllZip (SpellsLine form) words rows → SpellsLine form word row → AllZip (SpellsLine form) (words ++ word ∷ []) (rows ++ row ∷ [])
+zip_push form [] [] word row all is = (is, tt)
+zip_push form (w ∷ words) (r ∷ rows) word row all is = (all.0, zip_push form words rows word row all.1 is)
+zip_push form words rows word row all is = grind arith
 
-zip_length : (form : LineForm) (words : List (List ℕ)) (closings : List ℕ) → AllZip (SpellsLine form) words closings → length words ≡ length closings
+zip_length : (form : LineForm) (words : List (List ℕ)) (rows : List Row) → AllZip (SpellsLine form) words rows → length words ≡ length (closings_of rows)
 zip_length form [] [] all = refl
-zip_length form (w ∷ words) (c ∷ closings) all = ap suc (zip_length form words closings all.1)
-zip_length form words closings all = grind arith
+zip_length form (w ∷ words) (r ∷ rows) all = ap suc (zip_length form words rows all.1)
+zip_length form words rows all = grind arith
 
 -- no line was read yet
-pub read_none : {form : LineForm} {input : List ℕ} {read : ReadLines} → read.closings ≡ [] → AreDetails form.columns [] [] read.details → HaveRead form input input read
-read_none {form} {input} {read} none details =
+pub read_none : {form : LineForm} {input : List ℕ} {read : ReadLines} → read.rows.items ≡ [] → read.closings ≡ [] → AreDetails form.columns [] [] read.details → HaveRead form input input read
+read_none {form} {input} {read} no_rows none details =
     record {
       done = [];
       lines = refl;
-      spelled = subst (λ (closings : List ℕ). AllZip (SpellsLine form) [] closings) (sym none) tt;
+      spelled = subst (λ (rows : List Row). AllZip (SpellsLine form) [] rows) (sym no_rows) tt;
+      closings = none ∙ ap closings_of (sym no_rows);
       detailed = record {
         columns_are = details.columns_are;
         labels_are = details.labels_are ∙ sym (no_words form.columns.labels (label_of form));
@@ -89,18 +91,24 @@ read_more {form} {input} {rest} {old} {new} line behind far cut is =
     record {
       done = far.done ++ line ∷ [];
       lines = far.lines ∙ ap (λ (ls : List (List ℕ)). far.done ++ ls) cut ∙ sym (append_assoc far.done (line ∷ []) (lines_of behind));
-      spelled = rw is.closings (zip_push form far.done old.closings line is.closing far.spelled is.spells);
+      spelled = rw is.rows (zip_push form far.done old.rows.items line is.row far.spelled is.spells);
+      closings = is.closings ∙ ap (λ (cs : List ℕ). cs ++ is.row.moment ∷ []) far.closings ∙ sym (map-append (λ (row : Row). row.moment) old.rows.items (is.row ∷ [])) ∙ ap closings_of (sym is.rows);
       detailed = details_more form far.done line is.size is.label old.details new.details is.fields is.added far.detailed;
     }
 
 -- all lines
 pub read_all : {form : LineForm} {input rest : List ℕ} {read : ReadLines} → HaveRead form input rest read → lines_of rest ≡ [] → AllLater ◌≤◌ read.closings
-    → SpellClosings form (lines_of input) read.closings × AreDetails form.columns (labels_of form (lines_of input)) (size_words_of form (lines_of input)) read.details
+    → AreRead form input read
 read_all {form} {input} {rest} {read} far none rise =
-    let all : lines_of input ≡ far.done = far.lines ∙ ap (λ (ls : List (List ℕ)). far.done ++ ls) none ∙ append-nil far.done in (
-      record { spelled = subst (λ (ls : List (List ℕ)). AllZip (SpellsLine form) ls read.closings) (sym all) far.spelled; rise = rise },
-      subst (λ (ls : List (List ℕ)). AreDetails form.columns (labels_of form ls) (size_words_of form ls) read.details) (sym all) far.detailed,
-    )
+    let all : lines_of input ≡ far.done = far.lines ∙ ap (λ (ls : List (List ℕ)). far.done ++ ls) none ∙ append-nil far.done in
+    record {
+      spell = record {
+        spelled = subst (λ (ls : List (List ℕ)). AllZip (SpellsLine form) ls read.rows.items) (sym all) far.spelled;
+        rise = subst (λ (cs : List ℕ). AllLater ◌≤◌ cs) far.closings rise;
+      };
+      closings = far.closings;
+      detailed = subst (λ (ls : List (List ℕ)). AreDetails form.columns (labels_of form ls) (size_words_of form ls) read.details) (sym all) far.detailed;
+    }
 
 -- an input with a line isn't empty
 pub not_empty : (input : List ℕ) (before : List (List ℕ)) (line : List ℕ) (behind : List (List ℕ)) → lines_of input ≡ before ++ line ∷ behind → input ≢ []
@@ -116,11 +124,11 @@ read_bad {form} {input = input} {read = read} line behind (BadInput number why) 
       before = far.done;
       line = line;
       behind = behind;
-      closings = read.closings;
+      rows = read.rows.items;
       lines = far.lines ∙ ap (λ (ls : List (List ℕ)). far.done ++ ls) cut;
-      number_is = bad.0 ∙ ap (λ (n : ℕ). n + 1) (sym (zip_length form far.done read.closings far.spelled));
-      spell = record { spelled = far.spelled; rise = bad.1 };
-      bad = bad.2;
+      number_is = bad.0 ∙ ap (λ (n : ℕ). n + 1) (ap length far.closings ∙ sym (zip_length form far.done read.rows.items far.spelled));
+      spell = record { spelled = far.spelled; rise = subst (λ (cs : List ℕ). AllLater ◌≤◌ cs) far.closings bad.1 };
+      bad = subst (λ (cs : List ℕ). IsBad form cs line why) far.closings bad.2;
     }
 read_bad {input = input} line behind NoMemory far cut bad = not_empty input far.done line behind (far.lines ∙ ap (λ (ls : List (List ℕ)). far.done ++ ls) cut)
 read_bad line behind ReadFault far cut bad = absurd bad

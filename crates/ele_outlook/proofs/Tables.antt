@@ -1,5 +1,6 @@
 -- The tables of plans, and their moments.
-use Rattle.std.proofs.Common.{◌≡◌, ◌≢◌, ℕ, ◌<◌, ◌⊎◌, inl, inr, Bool, true, false, List, [], ◌∷◌, length, map, refl, ap, ◌∙◌, arith}
+use Rattle.std.proofs.Common.{◌≡◌, ◌≢◌, ℕ, ◌<◌, ◌⊎◌, inl, inr, Bool, true, false, List, [], ◌∷◌, length, map, refl, ap, subst, ◌∙◌, ◌==◌, arith}
+use Rattle.std.proofs.lemmas.Bool.Decides.{nat_tests}
 use Rattle.ele_policy.specs.declared.policy.Policy.{Policy}
 use Rattle.ele_forecast_forms.specs.Compared.{compared_text}
 use Rattle.ele_forecast.specs.FileOf.{lives_from}
@@ -11,12 +12,23 @@ use Rattle.ele_forecast_text.specs.declared.plan.Plan.{Plan}
 use Rattle.ele_forecast_text.specs.declared.staying.Staying.{Staying}
 use Rattle.std.specs.Prelude.{decimal, nat_lt}
 use Rattle.ele_svg.specs.Drawing.{has_curves}
-use Rattle.ele_forecast_forms.specs.declared.counts.Counts.{Counts}
+use Rattle.ele_peer_rules.specs.declared.row.Row.{Row}
+use Rattle.ele_rule_forecast.specs.Judged.{AreJudged}
+use Rattle.ele_rule_forecast.specs.RuledCsv.{ruled_csv}
+use Rattle.ele_rule_forecast.specs.RuledJson.{ruled_json}
+use Rattle.ele_rule_forecast.specs.RuledTable.{ruled_text}
+use Rattle.ele_rule_forecast.specs.declared.judged.AskedRule.{AskedRule}
+use Rattle.ele_rule_forecast.specs.declared.judged.Judged.{Judged}
+use Rattle.ele_forecast_forms.specs.Csv.{csv_text}
+use Rattle.ele_forecast_forms.specs.Json.{json_text}
+use Rattle.ele_outlook.specs.Reading.{IsFoundIn, IsOfForm, MayLack}
+use Rattle.ele_outlook.specs.declared.input.ReadLines.{ReadLines}
+use Rattle.ele_outlook.specs.declared.found.Found.{Found}
 use Rattle.ele_outlook.specs.declared.options.ForecastOptions.{ForecastOptions}
-use Rattle.ele_outlook.specs.Told.{AreRows, IsForecastText, is_over, line_form, listed_numbers, stayings_of, texts_of, told_of, told_table}
+use Rattle.ele_outlook.specs.Told.{AreRows, AsksMuch, IsForecastText, IsOver, is_over, plain_table, stayings_of, texts_of, told_csv, told_json, told_of, told_table}
 
 -- the table of several plans, or none
-pub compared_for : (named : Bool) (details : Details) (plans : List Plan) (moments : ℕ) → length plans ≢ 1 → compared_text details plans moments ≡ told_table named details plans moments
+pub compared_for : (named : Bool) (details : Details) (plans : List Plan) (moments : ℕ) → length plans ≢ 1 → compared_text details plans moments ≡ plain_table named details plans moments
 compared_for named details [] moments several = refl
 compared_for named details (plan ∷ []) moments several = absurd (several refl)
 compared_for named details (plan ∷ next ∷ plans) moments several = refl
@@ -46,10 +58,6 @@ some_told : (forecasts : List Forecast) → nat_lt 200 (length forecasts) ≡ tr
 some_told [] many none = absurd cc
 some_told (told ∷ forecasts) many none = absurd cc
 
-uncurved : (closings moments : List ℕ) (policies : List Policy) → (closings ≢ []) ⊎ (1 < length policies) → (closings ≢ []) ⊎ (moments ≢ []) ⊎ (1 < length policies)
-uncurved closings moments policies (inl some) = inl some
-uncurved closings moments policies (inr many) = inr (inr many)
-
 -- if a drawing has curves, the file has closed or there are several policies
 pub drawn_some : (policies : List Policy) (closings moments : List ℕ) (plans : List Plan) → ArePlans policies closings moments plans → has_curves plans ≡ true → (closings ≢ []) ⊎ (1 < length policies)
 drawn_some policies closings moments [] are drawn = absurd cc
@@ -58,11 +66,50 @@ drawn_some policies closings moments (plan ∷ []) are drawn = inl (closed_some 
 drawn_some [] closings moments (plan ∷ other ∷ plans) are drawn = absurd are
 drawn_some (policy ∷ []) closings moments (plan ∷ other ∷ plans) are drawn = absurd are.1
 
--- there was no memory for the counts
-pub uncounted : (policies : List Policy) (closings moments : List ℕ) (plans : List Plan) → ArePlans policies closings moments plans → (versions_of plans ≢ []) ⊎ (has_curves plans ≡ true)
-    → (closings ≢ []) ⊎ (moments ≢ []) ⊎ (1 < length policies)
-uncounted policies closings moments plans are (inl some) = inl (closed_some policies closings moments plans are some)
-uncounted policies closings moments plans are (inr drawn) = uncurved closings moments policies (drawn_some policies closings moments plans are drawn)
+curved : (options : ForecastOptions) (closings : List ℕ) → (closings ≢ []) ⊎ (1 < length options.policies.items) → (closings ≢ []) ⊎ AsksMuch options
+curved options closings (inl some) = inl some
+curved options closings (inr many) = inr (inr (inl many))
+
+-- there was no memory for what the form shows
+pub unfound : (options : ForecastOptions) (closings : List ℕ) (plans : List Plan) → ArePlans options.policies.items closings options.moments.items plans → MayLack options plans → (closings ≢ []) ⊎ AsksMuch options
+unfound options closings plans are (inl rules) = inr (inr (inr rules))
+unfound options closings plans are (inr (inl some)) = inr (inl (asked options.policies.items closings options.moments.items plans are some))
+unfound options closings plans are (inr (inr (inl some))) = inl (closed_some options.policies.items closings options.moments.items plans are some)
+unfound options closings plans are (inr (inr (inr drawn))) = curved options closings (drawn_some options.policies.items closings options.moments.items plans are drawn)
+
+-- no rules keep nothing
+pub none_judged : (rules : List AskedRule) (rows : List Row) (moments : List ℕ) → (length rules == 0) ≡ true → AreJudged rules rows moments []
+none_judged [] rows moments e = tt
+none_judged (rule ∷ rules) rows moments e = absurd (grind (arith, nat_tests))
+
+pub some_rules : (rules : List AskedRule) → (length rules == 0) ≡ false → rules ≢ []
+some_rules [] e = λ none. absurd cc
+some_rules (rule ∷ rules) e = λ none. absurd cc
+
+-- the texts with rules, and without
+pub plain_for : (named : Bool) (details : Details) (plans : List Plan) (moments : ℕ) (judged : List Judged) → (length judged == 0) ≡ true → plain_table named details plans moments ≡ told_table named details plans moments judged
+plain_for named details plans moments [] e = refl
+plain_for named details plans moments (one ∷ others) e = grind (arith, nat_tests)
+
+pub ruled_for : (named : Bool) (details : Details) (plans : List Plan) (moments : ℕ) (judged : List Judged) → (length judged == 0) ≡ false → ruled_text details plans moments judged ≡ told_table named details plans moments judged
+ruled_for named details plans moments [] e = absurd cc
+ruled_for named details plans moments (one ∷ others) e = refl
+
+pub json_for : (details : Details) (plans : List Plan) (judged : List Judged) → (length judged == 0) ≡ true → json_text details plans ≡ told_json details plans judged
+json_for details plans [] e = refl
+json_for details plans (one ∷ others) e = grind (arith, nat_tests)
+
+pub ruled_json_for : (details : Details) (plans : List Plan) (judged : List Judged) → (length judged == 0) ≡ false → ruled_json details plans judged ≡ told_json details plans judged
+ruled_json_for details plans [] e = absurd cc
+ruled_json_for details plans (one ∷ others) e = refl
+
+pub csv_for : (details : Details) (plans : List Plan) (judged : List Judged) → (length judged == 0) ≡ true → csv_text details plans ≡ told_csv details plans judged
+csv_for details plans [] e = refl
+csv_for details plans (one ∷ others) e = grind (arith, nat_tests)
+
+pub ruled_csv_for : (details : Details) (plans : List Plan) (judged : List Judged) → (length judged == 0) ≡ false → ruled_csv details plans judged ≡ told_csv details plans judged
+ruled_csv_for details plans [] e = absurd cc
+ruled_csv_for details plans (one ∷ others) e = refl
 
 -- policies, if there are some and not one, are several
 pub several : (policies : List Policy) → length policies ≢ 1 → policies ≢ [] → 1 < length policies
@@ -70,18 +117,27 @@ several [] one some = absurd (some refl)
 several (policy ∷ []) one some = absurd (one refl)
 several (policy ∷ next ∷ policies) one some = omega arith
 
--- the output for plans is a forecast of their closings
-pub is_text : (options : ForecastOptions) (closings : List ℕ) (plans : List Plan) (details : Details) (listed : List ℕ) (rows : List Counts) → details.columns ≡ (line_form options).columns
-    → ArePlans options.policies.items closings options.moments.items plans → is_over options.form plans ≡ false → listed ≡ listed_numbers options.form plans → AreRows options.form closings plans rows
-    → IsForecastText options closings (texts_of details.labels.items) (map decimal details.sizes.items) (told_of options details plans listed rows)
-is_text options closings plans details listed rows columns are short listed_are rows_are =
+-- the output for plans is a forecast of what was read
+pub is_text : (options : ForecastOptions) (read : ReadLines) (plans : List Plan) (found : Found) → IsOfForm options read → ArePlans options.policies.items read.closings options.moments.items plans
+    → is_over options.form plans ≡ false → IsFoundIn options read plans found
+    → IsForecastText options read.rows.items (texts_of read.details.labels.items) (map decimal read.details.sizes.items) (told_of options read.details plans found)
+is_text options read plans found form are short found_is =
     record {
       plans = plans;
-      are = are;
-      details = details;
-      detailed = record { columns_are = columns; labels_are = refl; sizes_are = refl };
+      are = subst (λ (closings : List ℕ). ArePlans options.policies.items closings options.moments.items plans) form.closings are;
+      details = read.details;
+      detailed = record { columns_are = form.columns; labels_are = refl; sizes_are = refl };
       short = short;
-      rows = rows;
-      rows_are = rows_are;
-      text_is = ap (λ (numbers : List ℕ). told_of options details plans numbers rows) listed_are;
+      found = found;
+      found_is = record {
+        judged = found_is.judged;
+        listed = found_is.listed;
+        counts = subst (λ (closings : List ℕ). AreRows options.form closings plans found.counts.items) form.closings found_is.counts;
+      };
+      text_is = refl;
     }
+
+-- what was read has too many moments
+pub too_long : (options : ForecastOptions) (read : ReadLines) (plans : List Plan) → IsOfForm options read → ArePlans options.policies.items read.closings options.moments.items plans → is_over options.form plans ≡ true → IsOver options read.rows.items
+too_long options read plans form are long =
+    record { plans = plans; are = subst (λ (closings : List ℕ). ArePlans options.policies.items closings options.moments.items plans) form.closings are; long = long }

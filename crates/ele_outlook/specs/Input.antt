@@ -1,13 +1,20 @@
 -- The closings in an input, a moment a line, and its first bad line.
-use Rattle.std.specs.Prelude.{◌≡◌, ◌≢◌, ℕ, Bool, true, false, map, ◌+◌, ◌-◌, ◌<◌, ◌≤◌, ◌==◌, ◌||◌, ◌&&◌, List, [], ◌∷◌, ◌++◌, length, slice_get, IfSome, codes, decimal}
+use Rattle.std.specs.Prelude.{◌≡◌, ◌≢◌, ℕ, Bool, true, false, map, ◌+◌, ◌-◌, ◌<◌, ◌≤◌, ◌*◌, ◌==◌, ◌||◌, ◌&&◌, List, [], ◌∷◌, ◌++◌, length, slice_get, IfSome, codes, decimal}
 use Rattle.std.specs.List.{AllZip, after_first, before_first, slice_split}
 use Rattle.std.specs.Str.{IsUtf8}
 use Rattle.ele_lists.specs.Lists.{AllLater}
+use Rattle.ele_moment.specs.Last.{last_moment}
 use Rattle.ele_moment.specs.Number.{SpellsNumber}
-use Rattle.ele_tool_words.specs.Time.{SpellsTime}
+use Rattle.ele_tool_words.specs.ByClock.{SpellsBy}
+use Rattle.ele_tool_words.specs.declared.zone.Offset.{Offset}
+use Rattle.ele_tool_words.specs.declared.zone.Offset.TheVariants.{Ahead, Behind}
+use Rattle.ele_peer_rules.specs.Shown.{IsRow, IsShown}
+use Rattle.ele_peer_rules.specs.declared.row.Offset.{Offset as InSeconds}
+use Rattle.ele_peer_rules.specs.declared.row.Offset.TheVariants as seconds
+use Rattle.ele_peer_rules.specs.declared.row.Row.{Row}
 use Rattle.ele_output.specs.Line.{line_text}
 use Rattle.ele_outlook.specs.declared.fault.BadLine.{BadLine}
-use Rattle.ele_outlook.specs.declared.fault.BadLine.TheVariants.{NotMoment, NoSize, NoLabel, NotUtf8, OutOfOrder}
+use Rattle.ele_outlook.specs.declared.fault.BadLine.TheVariants.{NotMoment, NoSize, NoLabel, NotUtf8, NotShown, OutOfOrder}
 use Rattle.ele_outlook.specs.declared.options.LineForm.{LineForm}
 
 -- the parts without the last, if that is empty
@@ -81,15 +88,29 @@ pub record HasFields (form : LineForm) (line : List ℕ) : Type 0 where
   pub label : HasLabel form line
   pub text : HasText form line
 
--- the line's time is this moment
-pub record SpellsLine (form : LineForm) (line : List ℕ) (moment : ℕ) : Type 0 where
+-- an offset in seconds
+abbrev pub in_seconds : Offset → InSeconds
+in_seconds (Ahead minutes) = seconds.Ahead (60 * minutes)
+in_seconds (Behind minutes) = seconds.Behind (60 * minutes)
+
+-- the line's time, and what its clock shows then
+pub record SpellsRow (form : LineForm) (line : List ℕ) (row : Row) : Type 0 where
+  pub offset : Offset
+  pub time : SpellsBy form.clock (time_of form line) row.moment offset
+  pub row_is : IsRow row.moment (in_seconds offset) row
+
+pub record SpellsLine (form : LineForm) (line : List ℕ) (row : Row) : Type 0 where
   pub fields : HasFields form line
-  pub time : SpellsTime (time_of form line) moment
+  pub spells : SpellsRow form line row
+
+-- the closings of rows
+abbrev pub closings_of : List Row → List ℕ
+closings_of rows = map (λ row. row.moment) rows
 
 -- each line spells its closing, and none is before the previous one
-pub record SpellClosings (form : LineForm) (lines : List (List ℕ)) (closings : List ℕ) : Type 0 where
-  pub spelled : AllZip (SpellsLine form) lines closings
-  pub rise : AllLater ◌≤◌ closings
+pub record SpellRows (form : LineForm) (lines : List (List ℕ)) (rows : List Row) : Type 0 where
+  pub spelled : AllZip (SpellsLine form) lines rows
+  pub rise : AllLater ◌≤◌ (closings_of rows)
 
 -- the first field besides the time that a line lacks
 abbrev pub LacksField : LineForm → List ℕ → BadLine → Type 0
@@ -97,27 +118,39 @@ LacksField form line NoSize = ¬ HasSize form line
 LacksField form line NoLabel = HasSize form line × (¬ HasLabel form line)
 LacksField form line NotUtf8 = HasSize form line × HasLabel form line × (¬ HasText form line)
 LacksField form line NotMoment = ⊥
+LacksField form line NotShown = ⊥
 LacksField form line OutOfOrder = ⊥
+
+-- its time is none, or one that a clock shows before 1970 or after the year 9999
+abbrev pub LacksRow : LineForm → List ℕ → BadLine → Type 0
+LacksRow form line NotMoment = (moment : ℕ) (offset : Offset) → ¬ SpellsBy form.clock (time_of form line) moment offset
+LacksRow form line NotShown =
+    (moment : ℕ) × (offset : Offset) × SpellsBy form.clock (time_of form line) moment offset × ((local : ℕ) → local ≤ last_moment → ¬ IsShown moment (in_seconds offset) local)
+LacksRow form line NoSize = ⊥
+LacksRow form line NoLabel = ⊥
+LacksRow form line NotUtf8 = ⊥
+LacksRow form line OutOfOrder = ⊥
 
 -- what is wrong with the line after those that spell these closings
 abbrev pub IsBad : LineForm → List ℕ → List ℕ → BadLine → Type 0
 IsBad form closings line NoSize = LacksField form line NoSize
 IsBad form closings line NoLabel = LacksField form line NoLabel
 IsBad form closings line NotUtf8 = LacksField form line NotUtf8
-IsBad form closings line NotMoment = HasFields form line × ((moment : ℕ) → ¬ SpellsTime (time_of form line) moment)
+IsBad form closings line NotMoment = HasFields form line × LacksRow form line NotMoment
+IsBad form closings line NotShown = HasFields form line × LacksRow form line NotShown
 IsBad form closings line OutOfOrder =
-    (moment : ℕ) × SpellsLine form line moment × IfSome (slice_get closings (length closings - 1)) (λ last. moment < last)
+    (row : Row) × SpellsLine form line row × IfSome (slice_get closings (length closings - 1)) (λ last. row.moment < last)
 
 -- the lines before this one spell closings, and it is bad; lines are counted from 1
 pub record IsFirstBad (form : LineForm) (input : List ℕ) (number : ℕ) (why : BadLine) : Type 0 where
   pub before : List (List ℕ)
   pub line : List ℕ
   pub behind : List (List ℕ)
-  pub closings : List ℕ
+  pub rows : List Row
   pub lines : lines_of input ≡ before ++ line ∷ behind
   pub number_is : number ≡ length before + 1
-  pub spell : SpellClosings form before closings
-  pub bad : IsBad form closings line why
+  pub spell : SpellRows form before rows
+  pub bad : IsBad form (closings_of rows) line why
 
 -- the end of the message for a bad line
 abbrev pub bad_word : BadLine → List ℕ
@@ -125,6 +158,7 @@ bad_word NotMoment = codes "is not a moment"
 bad_word NoSize = codes "has no size"
 bad_word NoLabel = codes "has no label"
 bad_word NotUtf8 = codes "has a label that is not UTF-8"
+bad_word NotShown = codes "is before 1970 or after 9999 by its clock"
 bad_word OutOfOrder = codes "comes before the line ahead of it"
 
 abbrev pub bad_line_text : ℕ → BadLine → List ℕ

@@ -1,13 +1,19 @@
 -- The parts of reading and writing. No public clause cites this module.
-use Rattle.std.specs.Prelude.{◌≡◌, ◌≢◌, ◌<◌, ◌≤◌, ℕ, Bool, map, ◌+◌, List, [], ◌∷◌, ◌++◌, decimal, length, Option, Result, Ok, Err, ◌⊎◌}
+use Rattle.std.specs.Prelude.{◌≡◌, ◌≢◌, ◌≤◌, ℕ, Bool, true, map, ◌+◌, List, [], ◌∷◌, ◌++◌, decimal, length, Option, Result, Ok, Err, ◌⊎◌}
 use Rattle.std.specs.List.{AllZip}
 use Rattle.std.specs.Io.KnownBytes.{Appends, Consumes, Keeps}
 use Rattle.ele_lists.specs.Lists.{AllLater}
 use Rattle.ele_output.specs.Front.{AppendsFront}
 use Rattle.ele_forecast_text.specs.Details.{words_if}
+use Rattle.ele_forecast_text.specs.Plan.{versions_of}
+use Rattle.ele_forecast_text.specs.declared.plan.Plan.{Plan}
+use Rattle.ele_svg.specs.Drawing.{has_curves}
 use Rattle.ele_forecast_text.specs.declared.details.Details.{Details}
-use Rattle.ele_outlook.specs.Input.{HasFields, HasSize, IsBad, IsFirstBad, SpellClosings, SpellsLine, label_of, labels_of, lines_of, size_words_of}
-use Rattle.ele_outlook.specs.Told.{AreDetails, IsForecastText, IsOver, texts_of}
+use Rattle.ele_outlook.specs.Input.{HasFields, HasSize, IsBad, IsFirstBad, SpellRows, SpellsLine, closings_of, label_of, labels_of, lines_of, size_words_of}
+use Rattle.ele_outlook.specs.Told.{AreDetails, AreRows, AsksMuch, IsForecastText, IsOver, line_form, listed_numbers, stayings_of, texts_of}
+use Rattle.ele_peer_rules.specs.declared.row.Row.{Row}
+use Rattle.ele_rule_forecast.specs.Judged.{AreJudged}
+use Rattle.ele_outlook.specs.declared.found.Found.{Found}
 use Rattle.ele_outlook.specs.declared.input.ReadLines.{ReadLines}
 use Rattle.ele_outlook.specs.declared.options.ForecastOptions.{ForecastOptions}
 use Rattle.ele_outlook.specs.declared.options.LineForm.{LineForm}
@@ -33,11 +39,12 @@ pub record AreFields (form : LineForm) (line : List ℕ) (size : ℕ) (label : L
   pub word : size_words_of form (line ∷ []) ≡ words_if form.columns.sizes (decimal size ∷ [])
   pub label_is : label ≡ label_of form line
 
--- some lines of the input were read, whose closings, labels and sizes these are, and the others are left
+-- some lines of the input were read, whose rows, closings, labels and sizes these are, and the others are left
 pub record HaveRead (form : LineForm) (input rest : List ℕ) (read : ReadLines) : Type 0 where
   pub done : List (List ℕ)
   pub lines : lines_of input ≡ done ++ lines_of rest
-  pub spelled : AllZip (SpellsLine form) done read.closings
+  pub spelled : AllZip (SpellsLine form) done read.rows.items
+  pub closings : read.closings ≡ closings_of read.rows.items
   pub detailed : AreDetails form.columns (labels_of form done) (size_words_of form done) read.details
 
 -- memory was refused
@@ -53,6 +60,11 @@ abbrev pub AddsWord : {A : Type 0} → Bool → List ℕ → List (List ℕ) →
 AddsWord has word old new (Ok _) = new ≡ old ++ words_if has (word ∷ [])
 AddsWord has word old new (Err fault) = IsMemory fault
 
+-- a row was added to others
+abbrev pub AddsRow : {A : Type 0} → Row → List Row → List Row → Result A ForecastFault → Type 0
+AddsRow row old new (Ok _) = new ≡ old ++ row ∷ []
+AddsRow row old new (Err fault) = IsMemory fault
+
 -- the label and the size of a line were added to those of the lines before
 pub record AreAdded (size : ℕ) (label : List ℕ) (old new : Details) : Type 0 where
   pub columns : new.columns ≡ old.columns
@@ -62,6 +74,16 @@ pub record AreAdded (size : ℕ) (label : List ℕ) (old new : Details) : Type 0
 abbrev pub AddsDetails : {A : Type 0} → ℕ → List ℕ → Details → Details → Result A ForecastFault → Type 0
 AddsDetails size label old new (Ok _) = AreAdded size label old new
 AddsDetails size label old new (Err fault) = IsMemory fault
+
+-- the row, the size and the label of a line were added to those of the lines before
+pub record AreWith (row : Row) (size : ℕ) (label : List ℕ) (old new : ReadLines) : Type 0 where
+  pub rows : new.rows.items ≡ old.rows.items ++ row ∷ []
+  pub closings : new.closings ≡ old.closings
+  pub added : AreAdded size label old.details new.details
+
+abbrev pub AddsFields : {A : Type 0} → Row → ℕ → List ℕ → ReadLines → ReadLines → Result A ForecastFault → Type 0
+AddsFields row size label old new (Ok _) = AreWith row size label old new
+AddsFields row size label old new (Err fault) = IsMemory fault
 
 -- the line after those of these closings is bad, or memory was refused
 abbrev pub FailsToAdd : LineForm → List ℕ → List ℕ → ForecastFault → Type 0
@@ -73,9 +95,10 @@ FailsToAdd form line closings WriteFault = ⊥
 
 -- what a line says was added to what the lines before say
 pub record IsWithLine (form : LineForm) (line : List ℕ) (old new : ReadLines) : Type 0 where
-  pub closing : ℕ
-  pub spells : SpellsLine form line closing
-  pub closings : new.closings ≡ old.closings ++ closing ∷ []
+  pub row : Row
+  pub spells : SpellsLine form line row
+  pub rows : new.rows.items ≡ old.rows.items ++ row ∷ []
+  pub closings : new.closings ≡ old.closings ++ row.moment ∷ []
   pub size : ℕ
   pub label : List ℕ
   pub fields : AreFields form line size label
@@ -85,23 +108,43 @@ abbrev pub AddsLine : {A : Type 0} → LineForm → List ℕ → ReadLines → R
 AddsLine form line old new (Ok _) = IsWithLine form line old new
 AddsLine form line old new (Err fault) = FailsToAdd form line old.closings fault
 
--- the closings, labels and sizes of all lines, or the first bad line; memory can be refused only if there is a line
+-- all lines were read
+pub record AreRead (form : LineForm) (input : List ℕ) (read : ReadLines) : Type 0 where
+  pub spell : SpellRows form (lines_of input) read.rows.items
+  pub closings : read.closings ≡ closings_of read.rows.items
+  pub detailed : AreDetails form.columns (labels_of form (lines_of input)) (size_words_of form (lines_of input)) read.details
+
+-- the rows, closings, labels and sizes of all lines, or the first bad line; memory can be refused only if there is a line
 abbrev pub ReadsLines : LineForm → List ℕ → Result ReadLines ForecastFault → Type 0
-ReadsLines form input (Ok read) =
-    SpellClosings form (lines_of input) read.closings × AreDetails form.columns (labels_of form (lines_of input)) (size_words_of form (lines_of input)) read.details
+ReadsLines form input (Ok read) = AreRead form input read
 ReadsLines form input (Err (BadInput number why)) = IsFirstBad form input number why
 ReadsLines form input (Err NoMemory) = input ≢ []
 ReadsLines form input (Err ReadFault) = ⊥
 ReadsLines form input (Err TooLong) = ⊥
 ReadsLines form input (Err WriteFault) = ⊥
 
--- the forecast of these closings was written
-abbrev pub TellsClosings : {A : Type 0} → ForecastOptions → List ℕ → List (List ℕ) → List (List ℕ) → Option (List ℕ) → Option (List ℕ) → Result A ForecastFault → Type 0
-TellsClosings options closings labels words old new (Ok _) =
-    (text : List ℕ) × IsForecastText options closings labels words text × Appends old new text
-TellsClosings options closings labels words old new (Err WriteFault) =
-    (text : List ℕ) × IsForecastText options closings labels words text × AppendsFront old new text
-TellsClosings options closings labels words old new (Err TooLong) = IsOver options closings × Keeps old new
-TellsClosings options closings labels words old new (Err NoMemory) = ((closings ≢ []) ⊎ (options.moments.items ≢ []) ⊎ (1 < length options.policies.items)) × Keeps old new
-TellsClosings options closings labels words old new (Err (BadInput number why)) = ⊥
-TellsClosings options closings labels words old new (Err ReadFault) = ⊥
+-- what the form shows of versions beside their plans, by what was read
+pub record IsFoundIn (options : ForecastOptions) (read : ReadLines) (plans : List Plan) (found : Found) : Type 0 where
+  pub judged : AreJudged options.rules.items read.rows.items options.moments.items found.judged.items
+  pub listed : found.listed.items ≡ listed_numbers options.form plans
+  pub counts : AreRows options.form read.closings plans found.counts.items
+
+-- there are rules, or a plan with moments, versions or curves
+abbrev pub MayLack : ForecastOptions → List Plan → Type 0
+MayLack options plans = (options.rules.items ≢ []) ⊎ (stayings_of plans ≢ []) ⊎ (versions_of plans ≢ []) ⊎ (has_curves plans ≡ true)
+
+-- what was read has the fields that the options want, and its closings are those of its rows
+pub record IsOfForm (options : ForecastOptions) (read : ReadLines) : Type 0 where
+  pub columns : read.details.columns ≡ (line_form options).columns
+  pub closings : read.closings ≡ closings_of read.rows.items
+
+-- the forecast of what was read was written
+abbrev pub TellsRead : {A : Type 0} → ForecastOptions → ReadLines → Option (List ℕ) → Option (List ℕ) → Result A ForecastFault → Type 0
+TellsRead options read old new (Ok _) =
+    (text : List ℕ) × IsForecastText options read.rows.items (texts_of read.details.labels.items) (map decimal read.details.sizes.items) text × Appends old new text
+TellsRead options read old new (Err WriteFault) =
+    (text : List ℕ) × IsForecastText options read.rows.items (texts_of read.details.labels.items) (map decimal read.details.sizes.items) text × AppendsFront old new text
+TellsRead options read old new (Err TooLong) = IsOver options read.rows.items × Keeps old new
+TellsRead options read old new (Err NoMemory) = ((read.closings ≢ []) ⊎ AsksMuch options) × Keeps old new
+TellsRead options read old new (Err (BadInput number why)) = ⊥
+TellsRead options read old new (Err ReadFault) = ⊥

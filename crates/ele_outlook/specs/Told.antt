@@ -1,5 +1,5 @@
 -- The text of a forecast, in each form.
-use Rattle.std.specs.Prelude.{◌≡◌, ℕ, Bool, true, false, List, [], ◌∷◌, ◌++◌, codes, decimal, length, map}
+use Rattle.std.specs.Prelude.{◌≡◌, ◌≢◌, ◌<◌, ◌⊎◌, ℕ, Bool, true, false, List, [], ◌∷◌, ◌++◌, codes, decimal, length, map}
 use Rattle.ele_forecast.specs.declared.forecast.Forecast.{Forecast}
 use Rattle.ele_svg.specs.Drawing.{drawing_text, drawn_moments}
 use Rattle.ele_policy.specs.PolicyText.{policy_word}
@@ -16,6 +16,14 @@ use Rattle.ele_forecast_text.specs.declared.details.Details.{Details}
 use Rattle.ele_forecast_text.specs.declared.label.Label.{Label}
 use Rattle.ele_forecast_text.specs.declared.plan.Plan.{Plan}
 use Rattle.ele_forecast_text.specs.declared.staying.Staying.{Staying}
+use Rattle.ele_peer_rules.specs.declared.row.Row.{Row}
+use Rattle.ele_rule_forecast.specs.Judged.{AreJudged}
+use Rattle.ele_rule_forecast.specs.RuledCsv.{ruled_csv}
+use Rattle.ele_rule_forecast.specs.RuledJson.{ruled_json}
+use Rattle.ele_rule_forecast.specs.RuledTable.{ruled_text}
+use Rattle.ele_rule_forecast.specs.declared.judged.Judged.{Judged}
+use Rattle.ele_outlook.specs.Input.{closings_of}
+use Rattle.ele_outlook.specs.declared.found.Found.{Found}
 use Rattle.ele_outlook.specs.declared.options.ForecastOptions.{ForecastOptions}
 use Rattle.ele_outlook.specs.declared.options.Form.{Form}
 use Rattle.ele_outlook.specs.declared.options.Form.TheVariants.{Table, Drawing, Due, Kept, Json, Csv, Every}
@@ -47,22 +55,35 @@ policy_line false plan = []
 policy_line true plan = codes "policy " ++ (policy_word plan.policy ++ codes "\n")
 
 -- the table of one policy, or of several side by side, with this number of moments
-abbrev pub told_table : Bool → Details → List Plan → ℕ → List ℕ
-told_table named details [] moments = compared_text details [] moments
-told_table named details (plan ∷ []) moments = policy_line named plan ++ table_text details plan
-told_table named details (plan ∷ next ∷ plans) moments = compared_text details (plan ∷ next ∷ plans) moments
+abbrev pub plain_table : Bool → Details → List Plan → ℕ → List ℕ
+plain_table named details [] moments = compared_text details [] moments
+plain_table named details (plan ∷ []) moments = policy_line named plan ++ table_text details plan
+plain_table named details (plan ∷ next ∷ plans) moments = compared_text details (plan ∷ next ∷ plans) moments
 
-abbrev pub told_text : Form → ForecastOptions → Details → List Plan → List ℕ → List Counts → List ℕ
-told_text Table options details plans listed rows = told_table options.named details plans (length options.moments.items)
-told_text Drawing options details plans listed rows = drawing_text options.title.items plans rows
-told_text Due options details plans listed rows = names_text details.labels.items listed
-told_text Kept options details plans listed rows = names_text details.labels.items listed
-told_text Json options details plans listed rows = json_text details plans
-told_text Csv options details plans listed rows = csv_text details plans
-told_text (Every step) options details plans listed rows = over_time_text plans rows
+-- the same, with what rules keep if there are rules
+abbrev pub told_table : Bool → Details → List Plan → ℕ → List Judged → List ℕ
+told_table named details plans moments [] = plain_table named details plans moments
+told_table named details plans moments (judged ∷ others) = ruled_text details plans moments (judged ∷ others)
 
-abbrev pub told_of : ForecastOptions → Details → List Plan → List ℕ → List Counts → List ℕ
-told_of options details plans listed rows = told_text options.form options details plans listed rows
+abbrev pub told_json : Details → List Plan → List Judged → List ℕ
+told_json details plans [] = json_text details plans
+told_json details plans (judged ∷ others) = ruled_json details plans (judged ∷ others)
+
+abbrev pub told_csv : Details → List Plan → List Judged → List ℕ
+told_csv details plans [] = csv_text details plans
+told_csv details plans (judged ∷ others) = ruled_csv details plans (judged ∷ others)
+
+abbrev pub told_text : Form → ForecastOptions → Details → List Plan → Found → List ℕ
+told_text Table options details plans found = told_table options.named details plans (length options.moments.items) found.judged.items
+told_text Drawing options details plans found = drawing_text options.title.items plans found.counts.items
+told_text Due options details plans found = names_text details.labels.items found.listed.items
+told_text Kept options details plans found = names_text details.labels.items found.listed.items
+told_text Json options details plans found = told_json details plans found.judged.items
+told_text Csv options details plans found = told_csv details plans found.judged.items
+told_text (Every step) options details plans found = over_time_text plans found.counts.items
+
+abbrev pub told_of : ForecastOptions → Details → List Plan → Found → List ℕ
+told_of options details plans found = told_text options.form options details plans found
 
 -- the rows of a table over time count the versions that stay at its moments, and those of a drawing at the moments of its curves' points;
 -- another form has none
@@ -100,7 +121,7 @@ is_json (Every step) = false
 
 -- the fields that the lines of an input must have
 abbrev pub line_form : ForecastOptions → LineForm
-line_form options = record { columns = record { labels = options.labels; sizes = options.sizes }; texts = is_json options.form }
+line_form options = record { columns = record { labels = options.labels; sizes = options.sizes }; texts = is_json options.form; clock = options.clock }
 
 -- the details of versions: these columns, with these labels and the sizes that these words spell
 pub record AreDetails (columns : Columns) (texts words : List (List ℕ)) (details : Details) : Type 0 where
@@ -108,20 +129,30 @@ pub record AreDetails (columns : Columns) (texts words : List (List ℕ)) (detai
   pub labels_are : texts_of details.labels.items ≡ texts
   pub sizes_are : map decimal details.sizes.items ≡ words
 
--- the text is a forecast in the form of the options: what becomes of the versions with these closings, labels and sizes under
--- each policy, and which stay at each moment
-pub record IsForecastText (options : ForecastOptions) (closings : List ℕ) (texts words : List (List ℕ)) (text : List ℕ) : Type 0 where
+-- what the form shows of versions with these rows beside their plans: what the rules keep, the listed numbers, and the counts
+pub record IsFound (options : ForecastOptions) (rows : List Row) (plans : List Plan) (found : Found) : Type 0 where
+  pub judged : AreJudged options.rules.items rows options.moments.items found.judged.items
+  pub listed : found.listed.items ≡ listed_numbers options.form plans
+  pub counts : AreRows options.form (closings_of rows) plans found.counts.items
+
+-- the text is a forecast in the form of the options: what becomes of the versions with these rows, labels and sizes under
+-- each policy, what each rule keeps, and which stay at each moment
+pub record IsForecastText (options : ForecastOptions) (rows : List Row) (texts words : List (List ℕ)) (text : List ℕ) : Type 0 where
   pub plans : List Plan
-  pub are : ArePlans options.policies.items closings options.moments.items plans
+  pub are : ArePlans options.policies.items (closings_of rows) options.moments.items plans
   pub details : Details
   pub detailed : AreDetails (line_form options).columns texts words details
   pub short : is_over options.form plans ≡ false
-  pub rows : List Counts
-  pub rows_are : AreRows options.form closings plans rows
-  pub text_is : text ≡ told_of options details plans (listed_numbers options.form plans) rows
+  pub found : Found
+  pub found_is : IsFound options rows plans found
+  pub text_is : text ≡ told_of options details plans found
 
--- these closings have too many moments for a table over time
-pub record IsOver (options : ForecastOptions) (closings : List ℕ) : Type 0 where
+-- versions with these rows have too many moments for a table over time
+pub record IsOver (options : ForecastOptions) (rows : List Row) : Type 0 where
   pub plans : List Plan
-  pub are : ArePlans options.policies.items closings options.moments.items plans
+  pub are : ArePlans options.policies.items (closings_of rows) options.moments.items plans
   pub long : is_over options.form plans ≡ true
+
+-- a moment is given, or there are several policies, or a rule
+abbrev pub AsksMuch : ForecastOptions → Type 0
+AsksMuch options = (options.moments.items ≢ []) ⊎ (1 < length options.policies.items) ⊎ (options.rules.items ≢ [])

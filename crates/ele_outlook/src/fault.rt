@@ -23,6 +23,9 @@ pub enum BadLine {
     /// Its label must be UTF-8, and isn't.
     #[error("label is not UTF-8")]
     NotUtf8,
+    /// The clock of its offset shows a time before 1970 or after the year 9999.
+    #[error("not shown by its clock")]
+    NotShown,
     /// Its moment is before that of the previous line.
     #[error("before the closing ahead of it")]
     OutOfOrder,
@@ -69,6 +72,7 @@ impl BadLine {
             BadLine::NoSize => "has no size",
             BadLine::NoLabel => "has no label",
             BadLine::NotUtf8 => "has a label that is not UTF-8",
+            BadLine::NotShown => "is before 1970 or after 9999 by its clock",
             BadLine::OutOfOrder => "comes before the line ahead of it",
         }
     }

@@ -3,15 +3,16 @@ ghost use Rattle.std.specs.Prelude.{◌≡◌, ◌≤◌, ◌<◌, ◌+◌, ℕ,
 ghost use Rattle.std.specs.Io.KnownBytes.{Consumes, IsAtEnd};
 ghost use Rattle.memchr.specs.Find.{IsFirstByte, is_byte};
 ghost use Rattle.ele_lists.specs.Lists.{AllLater};
-ghost use Rattle.ele_outlook.specs.Reading.{AddsDetails, AddsLine, AddsWord, GivesUp, HaveRead, ReadsLines};
+ghost use Rattle.ele_outlook.specs.Reading.{AddsDetails, AddsFields, AddsLine, AddsWord, GivesUp, HaveRead, ReadsLines};
 ghost use Rattle.ele_outlook.specs.Told.{AreDetails, texts_of};
 
 use crate::fault::{BadLine, ForecastFault};
-use crate::fields::{fields_of, time_of};
+use crate::fields::fields_of;
 use crate::options::LineForm;
+use crate::row::{add_row, row_of};
 use ele_forecast::{Closings, NotClosed};
 use ele_forecast_text::{Details, Label};
-use ele_tool_words::read_time;
+use ele_peer_rules::Row;
 use memchr::memchr;
 use std::alloc::Global;
 use std::io::{ErrorKind, Read};
@@ -47,14 +48,15 @@ pub(crate) fn read_input<R: Read>(alloc: Global, reader: &mut R) -> Result<Vec<u
     Err(ForecastFault::ReadFault)
 }
 
-/// What was read of lines: the closing of each, and their labels and sizes.
+/// What was read of lines: the row of each and its closing, and their labels and sizes.
 #[derive(Drop)]
 pub(crate) struct ReadLines {
+    pub(crate) rows: Vec<Row>,
     pub(crate) closings: Closings,
     pub(crate) details: Details,
 }
 
-/// Reads the closings from the lines of an input, and the labels and sizes of the lines. `BadInput` with the first
+/// Reads the rows from the lines of an input, and the labels and sizes of the lines. `BadInput` with the first
 /// bad line, `NoMemory` if memory is refused.
 pub(crate) fn read_lines(
     alloc: Global,
@@ -75,10 +77,12 @@ pub(crate) fn read_lines(
 
 // Returns what is read of no line.
 fn no_lines(alloc: Global, form: LineForm) -> ReadLines
+    ensures rows { result.rows.items ≡ [] }
     ensures closings { result.closings ≡ [] }
     ensures details { AreDetails form.columns [] [] result.details }
 {
     ReadLines {
+        rows: Vec::new(alloc),
         closings: Closings::new(alloc),
         details: Details {
             columns: form.columns,
@@ -138,14 +142,29 @@ fn add_line(
         Ok(fields) => fields,
         Err(why) => return Err(ForecastFault::BadInput(number, why)),
     };
-    let Ok(moment) = read_time(time_of(form, line)) else {
-        return Err(ForecastFault::BadInput(number, BadLine::NotMoment));
+    let row = match row_of(form, line) {
+        Ok(row) => row,
+        Err(why) => return Err(ForecastFault::BadInput(number, why)),
     };
-    match read.closings.push(moment) {
-        Ok(()) => add_details(alloc, size, label, &mut read.details),
+    match read.closings.push(row.moment) {
+        Ok(()) => add_fields(alloc, row, size, label, read),
         Err(NotClosed::OutOfOrder) => Err(ForecastFault::BadInput(number, BadLine::OutOfOrder)),
         Err(NotClosed::NoMemory) => Err(ForecastFault::NoMemory),
     }
+}
+
+// Adds the row of a line, and its size and label, if lines have these.
+fn add_fields(
+    alloc: Global,
+    row: Row,
+    size: u64,
+    label: &[u8],
+    read: &mut ReadLines,
+) -> Result<(), ForecastFault>
+    ensures { AddsFields row size label.now read.old read.new result }
+{
+    add_row(row, &mut read.rows)?;
+    add_details(alloc, size, label, &mut read.details)
 }
 
 // Adds the label and the size of a line, if lines have these.

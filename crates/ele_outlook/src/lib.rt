@@ -1,12 +1,14 @@
-//! Reads the closings of a file, a line each, and writes forecasts of its versions: a table, a list, a
+//! Reads the closings of a file, a line each, and writes forecasts of its versions under policies and rules: a table, a list, a
 //! drawing, JSON or CSV. A contract sees an input as its lines, the output as the text of the
 //! forecasts, and a reader and a writer as the bytes that they are known to hold.
 #![tactic(auto)]
 
 mod fault;
 mod fields;
+mod found;
 mod input;
 mod options;
+mod row;
 mod telling;
 
 pub use fault::{BadLine, ForecastFault, put_bad_line};

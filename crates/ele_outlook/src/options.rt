@@ -5,6 +5,8 @@ ghost use Rattle.ele_outlook.specs.Told.{line_form};
 use ele_forecast_text::Columns;
 use ele_moment::Moment;
 use ele_policy::Policy;
+use ele_rule_forecast::AskedRule;
+use ele_tool_words::Offset;
 
 /// The form of a forecast.
 #[derive(Clone, Copy, PartialEq, Eq)]
@@ -30,14 +32,18 @@ pub enum Form {
 /// The most policies that a forecast compares.
 pub const MOST_POLICIES: usize = 16;
 
-/// The options of a forecast: the policies that it compares, the moments at which it lists the
-/// versions that stay, the fields of its input and the form of its output.
+/// The options of a forecast: the policies and rules that it compares, the moments at which it lists
+/// the versions that stay, the fields of its input and the form of its output.
 #[derive(Drop)]
 pub struct ForecastOptions {
     pub policies: Vec<Policy>,
     /// Whether the table of one policy begins with a line with its name.
     pub named: bool,
     pub moments: Vec<Moment>,
+    /// The rules of other tools beside the policies. Only a table, JSON and CSV have these.
+    pub rules: Vec<AskedRule>,
+    /// The clock of each time that names no offset.
+    pub clock: Offset,
     /// Whether each line has a label after its time.
     pub labels: bool,
     /// Whether each line has a size after its time and before its label.
@@ -54,6 +60,8 @@ pub struct LineForm {
     pub columns: Columns,
     /// Whether a label must be UTF-8.
     pub texts: bool,
+    /// The clock of a time that names no offset.
+    pub clock: Offset,
 }
 
 /// Returns the fields that the lines of the input must have. Only JSON needs labels in UTF-8.
@@ -66,5 +74,6 @@ pub(crate) fn line_form(options: &ForecastOptions) -> LineForm
             sizes: options.sizes,
         },
         texts: matches!(options.form, Form::Json),
+        clock: options.clock,
     }
 }

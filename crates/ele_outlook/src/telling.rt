@@ -1,27 +1,22 @@
 //! Reads closings and writes forecasts. A contract sees the bytes that are read and written.
-ghost use Rattle.std.specs.Prelude.{◌≡◌, ◌≢◌, ◌∷◌, ◌⊎◌, true, [], IfOk, MatchOption, OnErr, decimal, length, map};
+ghost use Rattle.std.specs.Prelude.{◌≡◌, ◌≢◌, ◌∷◌, [], MatchOption, length};
 ghost use Rattle.ele_output.specs.Front.{WritesText};
 ghost use Rattle.ele_output.specs.Prints.{Prints};
-ghost use Rattle.ele_forecast_text.specs.Plan.{ArePlans, versions_of};
-ghost use Rattle.ele_svg.specs.Drawing.{has_curves};
+ghost use Rattle.ele_forecast_text.specs.Plan.{ArePlans};
 ghost use Rattle.ele_outlook.specs.Foretold.{Foretells, TellsForecast};
-ghost use Rattle.ele_outlook.specs.Reading.{TellsClosings};
-ghost use Rattle.ele_outlook.specs.Told.{AreRows, is_over, line_form, listed_numbers, numbers_at, policy_line, stayings_of, texts_of, told_of, told_table};
+ghost use Rattle.ele_outlook.specs.Reading.{IsOfForm, TellsRead};
+ghost use Rattle.ele_outlook.specs.Told.{is_over, plain_table, policy_line, told_csv, told_json, told_of, told_table};
 
 use crate::fault::ForecastFault;
-use crate::input::{read_input, read_lines};
+use crate::found::{Found, find};
+use crate::input::{ReadLines, read_input, read_lines};
 use crate::options::{ForecastOptions, Form, line_form};
-use ele_forecast::{Closings, Forecast};
-use ele_forecast_forms::{
-    Counts, counts_every, is_too_long, put_compared, put_csv, put_json, put_over_time,
-};
-use ele_forecast_text::{
-    Details, Plan, Staying, listed_at, plan_of, plans_of, put_names, put_policy, put_table,
-};
-use ele_moment::{NoMemory, VersionNo};
+use ele_forecast_forms::{is_too_long, put_compared, put_csv, put_json, put_over_time};
+use ele_forecast_text::{Details, Plan, plan_of, plans_of, put_names, put_policy, put_table};
 use ele_output::{Printer, WriteFault};
 use ele_policy::Policy;
-use ele_svg::{drawing_counts, put_drawing};
+use ele_rule_forecast::{Judged, put_ruled, put_ruled_csv, put_ruled_json};
+use ele_svg::put_drawing;
 use std::alloc::Global;
 use std::io::{Read, Write};
 
@@ -61,83 +56,68 @@ fn tell<W: Write>(
 {
     let form = line_form(options);
     let read = read_lines(alloc, form, input)?;
-    tell_closings(alloc, options, &read.closings, &read.details, writer)
+    tell_read(alloc, options, &read, writer)
 }
 
-// Writes the forecast of these closings.
-fn tell_closings<W: Write>(
+// Writes the forecast of what was read.
+fn tell_read<W: Write>(
     alloc: Global,
     options: &ForecastOptions,
-    closings: &Closings,
-    details: &Details,
+    read: &ReadLines,
     writer: &mut W,
 ) -> Result<(), ForecastFault>
-    requires { details.now.columns ≡ (line_form options.now).columns }
-    ensures { TellsClosings options.now closings.now (texts_of details.now.labels.items)
-        (map decimal details.now.sizes.items) (W.contents writer.old) (W.contents writer.new) result }
+    requires { IsOfForm options.now read.now }
+    ensures { TellsRead options.now read.now (W.contents writer.old) (W.contents writer.new) result }
 {
     let moments = options.moments.as_slice();
     let Some(policy) = only_policy(options.policies.as_slice()) else {
-        return tell_several(alloc, options, closings, details, writer);
+        return tell_several(alloc, options, read, writer);
     };
-    let Ok(plan) = plan_of(alloc, policy, closings, moments) else {
+    let Ok(plan) = plan_of(alloc, policy, &read.closings, moments) else {
         return Err(ForecastFault::NoMemory);
     };
     let plans = [plan];
-    tell_plans(alloc, options, closings, details, &plans, writer)
+    tell_plans(alloc, options, read, &plans, writer)
 }
 
-// Writes the forecast of these closings under several policies, or none.
+// Writes the forecast of what was read under several policies, or none.
 fn tell_several<W: Write>(
     alloc: Global,
     options: &ForecastOptions,
-    closings: &Closings,
-    details: &Details,
+    read: &ReadLines,
     writer: &mut W,
 ) -> Result<(), ForecastFault>
-    requires columns { details.now.columns ≡ (line_form options.now).columns }
+    requires form { IsOfForm options.now read.now }
     requires several { length options.now.policies.items ≢ 1 }
-    ensures { TellsClosings options.now closings.now (texts_of details.now.labels.items)
-        (map decimal details.now.sizes.items) (W.contents writer.old) (W.contents writer.new) result }
+    ensures { TellsRead options.now read.now (W.contents writer.old) (W.contents writer.new) result }
 {
     let policies = options.policies.as_slice();
-    let Ok(plans) = plans_of(alloc, policies, closings, options.moments.as_slice()) else {
+    let moments = options.moments.as_slice();
+    let Ok(plans) = plans_of(alloc, policies, &read.closings, moments) else {
         return Err(ForecastFault::NoMemory);
     };
-    tell_plans(alloc, options, closings, details, plans.as_slice(), writer)
+    tell_plans(alloc, options, read, plans.as_slice(), writer)
 }
 
-// Writes the forecast of these closings, from their plans.
+// Writes the forecast of what was read, from its plans.
 fn tell_plans<W: Write>(
     alloc: Global,
     options: &ForecastOptions,
-    closings: &Closings,
-    details: &Details,
+    read: &ReadLines,
     plans: &[Plan],
     writer: &mut W,
 ) -> Result<(), ForecastFault>
-    requires columns { details.now.columns ≡ (line_form options.now).columns }
-    requires are { ArePlans options.now.policies.items closings.now options.now.moments.items plans.now }
-    ensures { TellsClosings options.now closings.now (texts_of details.now.labels.items)
-        (map decimal details.now.sizes.items) (W.contents writer.old) (W.contents writer.new) result }
+    requires form { IsOfForm options.now read.now }
+    requires are { ArePlans options.now.policies.items read.now.closings options.now.moments.items plans.now }
+    ensures { TellsRead options.now read.now (W.contents writer.old) (W.contents writer.new) result }
 {
     if is_over(options.form, plans) {
         return Err(ForecastFault::TooLong);
     }
-    let Ok(listed) = listed(alloc, options.form, plans) else {
+    let Ok(found) = find(alloc, options, read, plans) else {
         return Err(ForecastFault::NoMemory);
     };
-    let Ok(rows) = counted(alloc, options.form, closings, plans) else {
-        return Err(ForecastFault::NoMemory);
-    };
-    write_told(
-        options,
-        details,
-        plans,
-        listed.as_slice(),
-        rows.as_slice(),
-        writer,
-    )?;
+    write_told(options, &read.details, plans, &found, writer)?;
     Ok(())
 }
 
@@ -148,23 +128,6 @@ fn is_over(form: Form, plans: &[Plan]) -> bool
     match form {
         Form::Every(step) => is_too_long(step, plans),
         Form::Table | Form::Drawing | Form::Due | Form::Kept | Form::Json | Form::Csv => false,
-    }
-}
-
-// Returns the counts of a table over time or of a drawing's curves, or none for another form.
-fn counted(
-    alloc: Global,
-    form: Form,
-    closings: &Closings,
-    plans: &[Plan],
-) -> Result<Vec<Counts>, NoMemory>
-    ensures ok { IfOk result (λ rows. AreRows form closings.now plans.now rows.items) }
-    ensures err { OnErr result ((versions_of plans.now ≢ []) ⊎ (has_curves plans.now ≡ true)) }
-{
-    match form {
-        Form::Every(step) => counts_every(alloc, step, closings, plans),
-        Form::Drawing => drawing_counts(alloc, closings, plans),
-        Form::Table | Form::Due | Form::Kept | Form::Json | Form::Csv => Ok(Vec::new(alloc)),
     }
 }
 
@@ -191,59 +154,19 @@ fn only_plan(plans: &[Plan]) -> Option<&Plan>
     }
 }
 
-// Returns the numbers of the versions that the form lists.
-fn listed(alloc: Global, form: Form, plans: &[Plan]) -> Result<Vec<VersionNo>, NoMemory>
-    ensures ok { IfOk result (λ numbers. numbers.items ≡ listed_numbers form plans.now) }
-    ensures err { OnErr result (stayings_of plans.now ≢ []) }
-{
-    match plans.first() {
-        Some(plan) => listed_of(
-            alloc,
-            form,
-            plan.forecasts.as_slice(),
-            plan.stayings.as_slice(),
-        ),
-        None => Ok(Vec::new(alloc)),
-    }
-}
-
-// Returns the numbers of the versions among these that the form lists.
-fn listed_of(
-    alloc: Global,
-    form: Form,
-    forecasts: &[Forecast],
-    stayings: &[Staying],
-) -> Result<Vec<VersionNo>, NoMemory>
-    ensures ok { IfOk result
-        (λ numbers. numbers.items ≡ numbers_at form forecasts.now stayings.now) }
-    ensures err { OnErr result (stayings.now ≢ []) }
-{
-    let Some(staying) = stayings.first() else {
-        return Ok(Vec::new(alloc));
-    };
-    match form {
-        Form::Table | Form::Drawing | Form::Json | Form::Csv | Form::Every(_) => {
-            Ok(Vec::new(alloc))
-        }
-        Form::Due => listed_at(alloc, false, forecasts, staying),
-        Form::Kept => listed_at(alloc, true, forecasts, staying),
-    }
-}
-
 // Writes the output, and flushes it.
 fn write_told<W: Write>(
     options: &ForecastOptions,
     details: &Details,
     plans: &[Plan],
-    listed: &[VersionNo],
-    rows: &[Counts],
+    found: &Found,
     writer: &mut W,
 ) -> Result<(), WriteFault>
-    ensures { WritesText (told_of options.now details.now plans.now listed.now rows.now)
+    ensures { WritesText (told_of options.now details.now plans.now found.now)
         (W.contents writer.old) (W.contents writer.new) result }
 {
     let mut printer = Printer::new(writer);
-    put_told(options, details, plans, listed, rows, &mut printer);
+    put_told(options, details, plans, found, &mut printer);
     printer.flush();
     printer.check()
 }
@@ -253,42 +176,61 @@ fn put_told<W: Write>(
     options: &ForecastOptions,
     details: &Details,
     plans: &[Plan],
-    listed: &[VersionNo],
-    rows: &[Counts],
+    found: &Found,
     printer: &mut Printer<'_, W>,
 )
     ensures { Prints W.contents printer.old printer.new
-        (told_of options.now details.now plans.now listed.now rows.now) }
+        (told_of options.now details.now plans.now found.now) }
 {
+    let judged = found.judged.as_slice();
+    let counts = found.counts.as_slice();
     match options.form {
-        Form::Table => put_told_table(options, details, plans, printer),
-        Form::Drawing => put_drawing(options.title.as_slice(), plans, rows, printer),
-        Form::Due | Form::Kept => put_names(details.labels.as_slice(), listed, printer),
-        Form::Json => put_json(details, plans, printer),
-        Form::Csv => put_csv(details, plans, printer),
-        Form::Every(_) => put_over_time(plans, rows, printer),
+        Form::Table => put_told_table(options, details, plans, judged, printer),
+        Form::Drawing => put_drawing(options.title.as_slice(), plans, counts, printer),
+        Form::Due | Form::Kept => {
+            put_names(details.labels.as_slice(), found.listed.as_slice(), printer);
+        }
+        Form::Json => put_told_json(details, plans, judged, printer),
+        Form::Csv => put_told_csv(details, plans, judged, printer),
+        Form::Every(_) => put_over_time(plans, counts, printer),
     }
 }
 
-// Prints the table of one policy, or of several side by side.
+// Prints the table of policies, with what rules keep if there are rules.
 fn put_told_table<W: Write>(
     options: &ForecastOptions,
     details: &Details,
     plans: &[Plan],
+    judged: &[Judged],
     printer: &mut Printer<'_, W>,
 )
     ensures { Prints W.contents printer.old printer.new
-        (told_table options.now.named details.now plans.now (length options.now.moments.items)) }
+        (told_table options.now.named details.now plans.now (length options.now.moments.items) judged.now) }
+{
+    let moments = options.moments.as_slice();
+    if judged.is_empty() {
+        put_plain_table(options.named, details, plans, moments.len(), printer);
+    } else {
+        put_ruled(details, plans, moments.len(), judged, printer);
+    }
+}
+
+// Prints the table of one policy, or of several side by side.
+fn put_plain_table<W: Write>(
+    named: bool,
+    details: &Details,
+    plans: &[Plan],
+    moments: usize,
+    printer: &mut Printer<'_, W>,
+)
+    ensures { Prints W.contents printer.old printer.new (plain_table named details.now plans.now moments) }
 {
     match only_plan(plans) {
         Some(plan) => {
-            put_policy_line(options.named, plan, printer);
+            put_policy_line(named, plan, printer);
             put_table(plan, details, printer);
         }
-        None => {
-            let moments = options.moments.as_slice();
-            put_compared(details, plans, moments.len(), printer);
-        }
+        None => put_compared(details, plans, moments, printer),
     }
 }
 
@@ -300,5 +242,37 @@ fn put_policy_line<W: Write>(named: bool, plan: &Plan, printer: &mut Printer<'_,
         printer.put(b"policy ");
         put_policy(&plan.policy, printer);
         printer.put(b"\n");
+    }
+}
+
+// Prints JSON, with what rules keep if there are rules.
+fn put_told_json<W: Write>(
+    details: &Details,
+    plans: &[Plan],
+    judged: &[Judged],
+    printer: &mut Printer<'_, W>,
+)
+    ensures { Prints W.contents printer.old printer.new (told_json details.now plans.now judged.now) }
+{
+    if judged.is_empty() {
+        put_json(details, plans, printer);
+    } else {
+        put_ruled_json(details, plans, judged, printer);
+    }
+}
+
+// Prints CSV, with what rules keep if there are rules.
+fn put_told_csv<W: Write>(
+    details: &Details,
+    plans: &[Plan],
+    judged: &[Judged],
+    printer: &mut Printer<'_, W>,
+)
+    ensures { Prints W.contents printer.old printer.new (told_csv details.now plans.now judged.now) }
+{
+    if judged.is_empty() {
+        put_csv(details, plans, printer);
+    } else {
+        put_ruled_csv(details, plans, judged, printer);
     }
 }

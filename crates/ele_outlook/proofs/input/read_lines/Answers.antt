@@ -1,11 +1,11 @@
-use Rattle.std.proofs.Common.{◌+◌, [], drop, refl}
+use Rattle.std.proofs.Common.{◌+◌, drop}
 use Rattle.std.proofs.lemmas.Result.{err_from_is_err_and}
 use Rattle.ele_outlook.specs.Input.{lines_of}
 use Rattle.ele_outlook.proofs.Lines.{first_line, read_bad, read_more, read_none}
 use Rattle.ele_outlook.proofs.input.read_lines.Goals as goal
 
 pub lines-init : goal.lines-init
-lines-init c = read_none c.no_lines-read.ensures.closings c.no_lines-read.ensures.details
+lines-init c = read_none c.no_lines-read.ensures.rows c.no_lines-read.ensures.closings c.no_lines-read.ensures.details
 
 pub lines-preserved : goal.lines-preserved
 lines-preserved c =

@@ -1,11 +1,14 @@
-use Rattle.std.proofs.Common.{length}
-use Rattle.ele_output.proofs.Known.{puts_as, puts_then}
-use Rattle.ele_outlook.proofs.Tables.{compared_for}
+use Rattle.std.proofs.Common.{◌∙◌, sym, length}
+use Rattle.ele_output.proofs.Known.{puts_as}
+use Rattle.ele_outlook.proofs.Tables.{plain_for, ruled_for}
 use Rattle.ele_outlook.proofs.telling.put_told_table.Goals as goal
 
-pub returns-in-Some : goal.returns-in-Some
-returns-in-Some g c = rw c.in-Some.ensures (puts_then c.put_policy_line.ensures c.put_table.ensures)
+pub returns-then-is_empty : goal.returns-then-is_empty
+returns-then-is_empty g c =
+    puts_as (plain_for c.args.options.now.named c.args.details.now c.args.plans.now (length c.args.options.now.moments.items) c.args.judged.now (sym c.is_empty.ensures ∙ c.if-is_empty.true))
+    (rw c.as_slice-moments.ensures.value at c.put_plain_table.ensures)
 
-pub returns-in-None : goal.returns-in-None
-returns-in-None g c =
-    puts_as (compared_for c.args.options.now.named c.args.details.now c.args.plans.now (length c.args.options.now.moments.items) c.in-None.ensures) (rw c.as_slice-moments.ensures.value at c.put_compared.ensures)
+pub returns-else-is_empty : goal.returns-else-is_empty
+returns-else-is_empty g c =
+    puts_as (ruled_for c.args.options.now.named c.args.details.now c.args.plans.now (length c.args.options.now.moments.items) c.args.judged.now (sym c.is_empty.ensures ∙ c.if-is_empty.false))
+    (rw c.as_slice-moments.ensures.value at c.put_ruled.ensures)

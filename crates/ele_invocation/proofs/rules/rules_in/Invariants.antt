@@ -1,0 +1,8 @@
+use Rattle.std.specs.Prelude.{map, take}
+use Rattle.std.specs.List.{AllZip}
+use Rattle.ele_invocation.specs.Forecasts.{AsksRule}
+use Rattle.ele_invocation.proofs.rules.rules_in.Given as goal
+
+-- those of the words so far
+abbrev pub invariant-loop-word : goal.invariant-loop-word
+invariant-loop-word l = AllZip AsksRule (map (λ word. word.now) (take l.word-index l.words)) l.rules.items
