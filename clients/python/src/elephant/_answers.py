@@ -324,8 +324,8 @@ class OpenHandle(NamedTuple):
 class VersionStory(NamedTuple):
     """What is known of a version: when it closed and ended (None: it has not ended), its length, and what becomes of it.
 
-    `removed` is when a stored event removed it (None: it is held); the rest is then what was known just before. `held` is the mark that held
-    a due version after its policy had let it go (None: no mark did).
+    `removed` is when a stored event removed it (None: it is held); the rest is then what was known just before. `held` is the mark that
+    held a due version after its policy had let it go (None: no mark did).
     """
 
     number: int
