@@ -21,9 +21,9 @@ A policy is one, all, standard, safe:LENGTH, safe:LENGTH/FLOOR or
 landmarks:AGE/WIDTH,.. ('elephant help policies'). AGE, WIDTH and LENGTH are
 seconds, or a number with s, m, h, d, w or y, as 7d.
 
-A rule is a tool, a colon and the tool's options: restic:keep-last=3,keep-daily=7
-or borg:keep-within=30d,keep-weekly=4. It keeps by the days, weeks and months of
-the clock of each time.
+A rule is a tool, a colon and options of that tool, as in
+restic:keep-last=3,keep-daily=7 or borg:keep-within=30d,keep-weekly=4. It keeps
+by the days, weeks and months of the clock of each time.
 
 Example:
   printf '2026-01-01\\n2026-01-02\\n' | elephant forecast --policy safe:7d";
@@ -46,15 +46,15 @@ const CSV: &str = "Print CSV instead of the table";
 
 const LABELS: &str = "Read a tab and a label after each time, and print it";
 
-const SIZES: &str = "Read a tab and a size in bytes after each time, before a\n\
-    label, and print it";
+const SIZES: &str = "Read a tab and a size in bytes after each time, before\n\
+    a label, and print it";
 
 const LIST: &str = "Print only the versions that are `due` or `kept` at the\n\
     moment of --at: their labels, or without --labels their\n\
     numbers";
 
-const RULE: &str = "Also print what a rule of another tool keeps, beside the\n\
-    policies; can be given several times";
+const RULE: &str = "Also print what a rule of another tool keeps, beside\n\
+    the policies; can be given several times";
 
 const OFFSET: &str = "Read times without an offset by a clock of this one, as\n\
     +05:30";
