@@ -115,7 +115,10 @@ enum elephant_code {
     ELEPHANT_NO_ROOM = 70,         /* the buffer is too small, and nothing is copied */
     ELEPHANT_UNTOLD = 71,          /* the line was run, but there was no memory for the text of its answer */
     ELEPHANT_BAD_CHECKPOINT = 72,  /* the bytes are no checkpoint of a store */
-    ELEPHANT_HANDLES_OPEN = 73     /* a handle is open */
+    ELEPHANT_HANDLES_OPEN = 73,    /* a handle is open */
+    ELEPHANT_NO_JOURNAL = 74,      /* the store has no journal */
+    ELEPHANT_HAS_JOURNAL = 75,     /* the store has a journal */
+    ELEPHANT_BAD_JOURNAL = 76      /* the bytes are no file of a store */
 };
 /* End of the codes. */
 

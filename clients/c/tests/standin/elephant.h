@@ -4,8 +4,6 @@
 
 #include "../../../../include/elephant.h"
 
-enum { ELEPHANT_NO_JOURNAL = 74, ELEPHANT_HAS_JOURNAL = 75, ELEPHANT_BAD_JOURNAL = 76 };
-
 int32_t elephant_journal_begin(elephant *e, uint64_t *length);
 int32_t elephant_journal_open(elephant *e, const void *bytes, size_t len, uint32_t history, uint64_t *whole, uint32_t *rest);
 int32_t elephant_journal_pending(elephant *e, uint64_t *length);
