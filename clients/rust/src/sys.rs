@@ -298,4 +298,16 @@ extern "C" {
     pub fn elephant_directory_across(e: *const elephant, directory: u64, fresh: *mut u64) -> i32;
     pub fn elephant_file_across(e: *const elephant, file: u64, fresh: *mut u64) -> i32;
     pub fn elephant_version_across(e: *const elephant, file: u64, version: u64, fresh: *mut u64) -> i32;
+    pub fn elephant_journal_begin(e: *mut elephant, length: *mut u64) -> i32;
+    pub fn elephant_journal_open(
+        e: *mut elephant,
+        bytes: *const u8,
+        len: usize,
+        history: u32,
+        whole: *mut u64,
+        rest: *mut u32,
+    ) -> i32;
+    pub fn elephant_journal_pending(e: *mut elephant, length: *mut u64) -> i32;
+    pub fn elephant_journal_written(e: *mut elephant) -> i32;
+    pub fn elephant_journal_compact(e: *mut elephant, length: *mut u64) -> i32;
 }
