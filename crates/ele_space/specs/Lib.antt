@@ -1,0 +1,4 @@
+pub mod Amounts
+pub mod AmountsText
+pub mod Removals
+pub mod Drawn
