@@ -1,5 +1,5 @@
 -- Which forecast the matches of `forecast` ask for.
-use Rattle.std.specs.Prelude.{◌≡◌, ◌+◌, ◌<◌, ◌≤◌, ◌==◌, ◌&&◌, if◌then◌else◌, MatchOption, not, ℕ, Bool, true, false, List, [], Ok, Err, Option, Some, None, length, unwrap_or, codes}
+use Rattle.std.specs.Prelude.{◌≡◌, ◌+◌, ◌<◌, ◌≤◌, ◌==◌, ◌&&◌, ◌||◌, if◌then◌else◌, MatchOption, ℕ, Bool, true, false, List, [], Ok, Err, Option, Some, None, length, unwrap_or, codes}
 use Rattle.std.specs.Int.{from_bool}
 use Rattle.std.specs.List.{All, AllZip, Any}
 use Rattle.ele_outlook.specs.declared.options.Form.{Form}
@@ -13,7 +13,9 @@ use Rattle.ele_script.specs.PolicyWord.{ReadsPolicy}
 use Rattle.ele_tool_words.specs.Length.{SpellsLength}
 use Rattle.ele_tool_words.specs.PolicyWord.{MeansPolicy}
 use Rattle.ele_tool_words.specs.Time.{SpellsTime}
-use Rattle.ele_typed_words.specs.When.{SpellsWhen}
+use Rattle.ele_tool_words.specs.Zone.{SpellsZone}
+use Rattle.ele_tool_words.specs.declared.zone.Offset.{Offset}
+use Rattle.ele_tool_words.specs.declared.zone.Offset.TheVariants.{Ahead}
 use Rattle.ele_invocation.specs.Matches.{is_given, is_on, values_of}
 use Rattle.clap.specs.Words.{Row, Text, all_of, first_of}
 
@@ -46,12 +48,11 @@ pub record IsForm (rows : List Row) (form : Form) : Type 0 where
       (λ word. IsOverTime word form))
       (λ word. IsList word form)
 
--- a list is of one policy at one moment, a table over time has moments of its own, and CSV has no place for any
+-- a list is of one policy at one moment, and a table over time has moments of its own
 abbrev pub suits : Form → ℕ → ℕ → Bool
 suits Due policies moments = (policies == 1) && (moments == 1)
 suits Kept policies moments = (policies == 1) && (moments == 1)
 suits (Every step) policies moments = moments == 0
-suits Csv policies moments = moments == 0
 suits form policies moments = true
 
 -- a script reads a policy in the word too, or refuses the word
@@ -61,50 +62,44 @@ IsPlain word = (policy : Policy) × ReadsPolicy word (Ok policy)
 abbrev pub IsForeign : Text → Type 0
 IsForeign word = (fault : LineFault) × ReadsPolicy word (Err fault)
 
--- the word spells the moment, where a clock shows now or nothing
-abbrev pub SpellsAt : Option ℕ → Text → ℕ → Type 0
-SpellsAt None word m = SpellsTime word m
-SpellsAt (Some now) word m = SpellsWhen now word m
+-- rules of other tools are for tables, JSON and CSV
+abbrev pub takes_rules : Form → Bool
+takes_rules Table = true
+takes_rules Json = true
+takes_rules Csv = true
+takes_rules Drawing = false
+takes_rules Due = false
+takes_rules Kept = false
+takes_rules (Every step) = false
 
--- a table over time and a drawing have no place for labels
-abbrev pub fits_labels : Form → Bool → Bool
-fits_labels Drawing labels = not labels
-fits_labels (Every step) labels = not labels
-fits_labels form labels = true
+-- the word means the rule
+pub record AsksRule (word : Text) (asked : AskedRule) : Type 0 where
+  pub word_is : asked.word.items ≡ word
+  pub means : MeansRule word asked.rule.tool asked.rule.parts.items
 
--- nor for sizes, and neither has a list
-abbrev pub fits_sizes : Form → Bool → Bool
-fits_sizes Drawing sizes = not sizes
-fits_sizes (Every step) sizes = not sizes
-fits_sizes Due sizes = not sizes
-fits_sizes Kept sizes = not sizes
-fits_sizes form sizes = true
-
--- only a drawing has a title
-abbrev pub fits_title : Form → Bool → Bool
-fits_title Drawing titled = true
-fits_title form titled = not titled
+-- the offset that `--offset` spells, or UTC
+abbrev pub IsClock : Option Text → Offset → Type 0
+IsClock None clock = clock ≡ Ahead 0
+IsClock (Some word) clock = SpellsZone word clock
 
 -- whether some word is one that a script refuses
 abbrev pub IsNamed : List Text → Bool → Type 0
 IsNamed words true = Any IsForeign words
 IsNamed words false = All IsPlain words
 
--- the forecast under the policies that the words mean, in their order, at the moments that the others spell where a clock shows now
-pub record AsksForecast (now : Option ℕ) (rows : List Row) (ask : ForecastOptions) : Type 0 where
-  pub no_file : first_of (codes "file") rows ≡ None
+-- the forecast under the policies and rules that the words mean, in their order, at the moments that the others spell
+pub record AsksForecast (rows : List Row) (ask : ForecastOptions) : Type 0 where
   pub words : List Text
   pub given : all_of (codes "policy") rows ≡ Some words
   pub few : length words ≤ 16
   pub policies : AllZip MeansPolicy words ask.policies.items
   pub named : IsNamed words ask.named
-  pub moments : AllZip (SpellsAt now) (values_of (codes "at") rows) ask.moments.items
+  pub moments : AllZip SpellsTime (values_of (codes "at") rows) ask.moments.items
+  pub rules : AllZip AsksRule (values_of (codes "rule") rows) ask.rules.items
+  pub clock : IsClock (first_of (codes "offset") rows) ask.clock
   pub labels : ask.labels ≡ is_on (codes "labels") rows
   pub sizes : ask.sizes ≡ is_on (codes "sizes") rows
   pub title : ask.title.items ≡ unwrap_or (first_of (codes "title") rows) []
   pub form : IsForm rows ask.form
   pub ruled : (takes_rules ask.form || (length (values_of (codes "rule") rows) == 0)) ≡ true
   pub suited : suits ask.form (length words) (length (values_of (codes "at") rows)) ≡ true
-  pub labelled : fits_labels ask.form ask.labels ≡ true
-  pub sized : fits_sizes ask.form ask.sizes ≡ true
-  pub titled : fits_title ask.form (is_given (codes "title") rows) ≡ true
