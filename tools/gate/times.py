@@ -72,9 +72,10 @@ class Times:
         return "".join(f"{line}\n" for line in lines)
 
     def chain(self, uses: Mapping[str, set[str]]) -> list[str]:
-        """Returns the crates that the end waited for, lowest first: each began when the one before it had ended."""
+        """Returns the crates that the end waited for, lowest first: each began when the one before it had ended. Another program of the
+        session may have proved crates that the tree hasn't; these are left out."""
         found: list[str] = []
-        crate = max(self.rows, key=lambda it: self.rows[it][1], default="")
+        crate = max((it for it in self.rows if it in uses), key=lambda it: self.rows[it][1], default="")
         while crate:
             found.append(crate)
             crate = max((it for it in uses[crate] if it in self.rows), key=lambda it: self.rows[it][1], default="")
