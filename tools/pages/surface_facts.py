@@ -359,7 +359,7 @@ def facts_of(tree: Tree) -> Facts:
     limits, codes = limits_of(tree), codes_of(tree)
     commands = commands_of(tree, limits, [it.name for it in codes if it.kind == "refusal" and it.name != "Full"])
     detail = tree[CODES].partition("fn detail_in(")[2].partition("\n}")[0]
-    letters = re.findall(r'WordKind::(\w+)( if after_\w+)? => "(\S+)"', tree[HELP_SCRIPT])
+    letters = re.findall(r'WordKind::(\w+)( if after_path)? => "(\S+)"', tree[HELP_SCRIPT])
     return Facts(
         commands, codes, limits, rows_of(tree), exports_of(tree), numbered(tree[CALLS], "EARLY|MIDDLE|LATE", "Call"),
         numbered(tree[KINDS], "KINDS", "Kind"), enums_of(tree),

@@ -7,12 +7,11 @@ versions anew at each question, among all versions.
 from collections.abc import Callable, Iterable, Iterator
 from datetime import datetime, timedelta
 
-from program.twin_changes import changes
 from program.twin_rows import (
     KINDS, LAST_MOMENT, LONGEST, ROOT, SLOT, Bad, Block, Draft, File, Group, Handle, Mark, Name, No, Place, Removal, Slots, Tagged, Target,
     Version, check, content, due_under, ladder, level_of, listed, moments_of, or_dash, printed_line, refusal, rewritten, safe_numbers, some,
 )
-from program.twin_story import Taken, copied, known, last_name, story
+from program.twin_story import Taken, copied, known, story
 
 
 class Twin:
@@ -33,7 +32,6 @@ class Twin:
         self.folded = 0
         self.removals: list[Removal] = []
         self.taken: list[Taken] = []
-        self.told: list[str] = []
         self.since: dict[str, int] = {}
 
     # Where paths lead.
@@ -259,9 +257,6 @@ class Twin:
         rows = [f"- {it.at} {it.file} {it.version} {it.path} {it.fate}" for it in self.removals]
         return [f"ok gone {self.folded} {len(rows)}", *rows]
 
-    def ask_removals(self) -> Block:
-        return [f"ok removals {self.folded} {len(self.told)}", *self.told]
-
     def ask_answers(self) -> Block:
         rows = [row for line, block in zip(self.entries, self.printed) for row in (f"- {line}", *block)]
         return [f"ok answers {self.folded} {len(self.entries)}", *rows]
@@ -270,24 +265,12 @@ class Twin:
         held = {file: [(it.number, f"{known(it)} {self.held_fate(file, it)}") for it in row.versions] for file, row in self.files.items()}
         return story(self.names, self.taken, held, path)
 
-    def ask_changes(self, first: str, second: str, within: str | None = None) -> Block:
-        if int(second) > self.now:
-            return [refusal(No("Future"))]
-        if int(second) < int(first):
-            return [refusal(No("NotAhead"))]
-        return changes(self.names, self.number_at, int(first), int(second), within)
-
-    def number_at(self, target: Target, moment: int) -> int | None:
-        """The number of the held version that a file had at a moment."""
-        versions = self.files[target.number].versions if target.kind == "file" else []
-        return next((it.number for it in versions if it.lived(moment)), None)
-
     def ask_history(self) -> Block:
         return [f"ok history {self.folded} {len(self.entries)}", *(f"- {it}" for it in self.entries)]
 
     def ask_trim(self) -> Block:
         count = len(self.entries)
-        self.entries, self.printed, self.removals, self.taken, self.told, self.since = [], [], [], [], [], {}
+        self.entries, self.printed, self.removals, self.taken, self.since = [], [], [], [], {}
         self.folded += count
         return [f"ok trimmed {count}"]
 
@@ -592,7 +575,6 @@ class Twin:
         version = some(row.held(number), "Forgotten")
         fate, held = self.fate(file, version), self.held_fate(file, version)
         self.removals.append(Removal(self.now, file, number, self.path_of(Target("file", file)), fate))
-        self.told.append(f"- {self.now} {file} {number} {last_name(self.names, file)} {held}")
         self.taken.append(Taken(file, number, f"{known(version)} removed {self.now} {held}", copied(self.names)))
         row.versions = [it for it in row.versions if it.number != number]
         self.drop_idle(file)

@@ -5,11 +5,11 @@ ghost use Rattle.std.specs.List.{AllZip, list_any};
 ghost use Rattle.ele_model.specs.World.{World};
 ghost use Rattle.ele_audit.specs.Removals.{AreRemoved, HasRemovals, IsExplained, is_removal, removal_in};
 
+use crate::path::{Above, path_of};
 use crate::row::Removed;
 use ele_history::History;
 use ele_model::{Entry, Explain, FromFlat, Key, NoMemory, Reply, Target};
 use ele_moment::Moment;
-use ele_name_paths::{Above, path_of};
 use ele_world::laws;
 use std::alloc::Global;
 
@@ -32,9 +32,8 @@ pub fn removed<C: Explain + FromFlat>(
     gathered(alloc, history)
 }
 
-/// Whether one of the entries removed a version.
-/// Cost: scans the entries.
-pub fn has_removals(entries: &[Entry]) -> bool
+// Whether one of the entries removed a version.
+fn has_removals(entries: &[Entry]) -> bool
     ensures { result ≡ list_any (λ entry. is_removal entry.reply) entries.now }
 {
     entries.iter().any(|entry| is_removal(&entry.reply))

@@ -4,6 +4,7 @@
 
 mod gone;
 mod listing;
+mod path;
 mod row;
 mod seen;
 mod stories;
@@ -14,12 +15,11 @@ mod story_text;
 mod text;
 mod version;
 
-pub use gone::{has_removals, removed};
+pub use gone::removed;
 pub use listing::open_handles;
 pub use row::{OpenHandle, Removed};
-pub use seen::name_story;
-pub use stories::{story, story_alone, version_story};
+pub use stories::{story, story_alone};
 pub use story_row::{NameStory, Story, VersionStory};
-pub use story_text::{put_fate_or_dash, put_hold, put_story};
-pub use text::{put_answers, put_gone, put_handles, put_path, put_since, put_why_gone};
+pub use story_text::put_story;
+pub use text::{put_answers, put_gone, put_handles, put_why_gone};
 pub use version::removed_version;

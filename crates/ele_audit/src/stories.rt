@@ -248,12 +248,8 @@ fn add_if_held<C: Explain>(
     Ok(())
 }
 
-/// Returns what the core's world knows of a version, which was removed at the moment, if there is
-/// one. The world is a copy of the core's rows.
-///
-/// `NoMemory` if memory is refused.
-/// Cost: scans the versions, and of a due version also the groups, files and names.
-pub fn version_story<C: Explain>(
+// What the core's world knows of a version, which was removed at the moment, if there is one.
+fn version_story<C: Explain>(
     core: &C,
     world: &Flat,
     file: FileId,

@@ -137,8 +137,8 @@ fn put_removed_at<W: Write>(removed: &Option<Moment>, printer: &mut Printer<'_, 
     }
 }
 
-/// Prints a space before each word of the mark that held a version, if one did.
-pub fn put_hold<W: Write>(hold: &Option<Hold>, printer: &mut Printer<'_, W>)
+// Prints a space before each word of the mark that held a version, if one did.
+fn put_hold<W: Write>(hold: &Option<Hold>, printer: &mut Printer<'_, W>)
     ensures { Prints W.contents printer.old printer.new (spaced (hold_words hold.now)) }
 {
     match hold {
@@ -156,8 +156,8 @@ fn put_held<W: Write>(group: &[u8], mark: &MarkRow, printer: &mut Printer<'_, W>
     mark.put_piece(b" ", printer);
 }
 
-/// Prints a space, a fate or a dash, and a line feed.
-pub fn put_fate_or_dash<W: Write>(fate: &Option<Fate>, printer: &mut Printer<'_, W>)
+// Prints a space, a fate or a dash, and a line feed.
+fn put_fate_or_dash<W: Write>(fate: &Option<Fate>, printer: &mut Printer<'_, W>)
     ensures { Prints W.contents printer.old printer.new (32 ∷ line_text (fate_or_dash fate.now)) }
 {
     match fate {

@@ -2,7 +2,7 @@
 ghost use Rattle.std.specs.Prelude.{◌≡◌, ◌∷◌, ◌++◌, [], List, ℕ, codes, decimal};
 ghost use Rattle.std.specs.List.{flat_map};
 ghost use Rattle.ele_audit.specs.AuditText.{AreAnswers, IsAnswersText, gone_text, gone_words, handle_line, handles_text, path_or_dash, read_word, removed_line, why_gone_text};
-ghost use Rattle.ele_name_paths.specs.LivePath.{names_in};
+ghost use Rattle.ele_audit.specs.LivePath.{names_in};
 ghost use Rattle.ele_audit.specs.Open.{file_of};
 ghost use Rattle.ele_output.specs.Line.{line_text};
 ghost use Rattle.ele_output.specs.Prints.{Prints};
@@ -166,7 +166,7 @@ fn put_read<W: Write>(reads: &Reads, printer: &mut Printer<'_, W>)
 }
 
 /// Prints a space and the seconds of a moment, or `-`.
-pub fn put_since<W: Write>(since: &Option<Moment>, printer: &mut Printer<'_, W>)
+pub(crate) fn put_since<W: Write>(since: &Option<Moment>, printer: &mut Printer<'_, W>)
     ensures { Prints W.contents printer.old printer.new (32 ∷ end_word since.now) }
 {
     match since {
@@ -175,8 +175,8 @@ pub fn put_since<W: Write>(since: &Option<Moment>, printer: &mut Printer<'_, W>)
     }
 }
 
-/// Prints a space and a path, or `-`.
-pub fn put_path<W: Write>(path: &Option<Vec<Name>>, printer: &mut Printer<'_, W>)
+// Prints a space and a path, or `-`.
+fn put_path<W: Write>(path: &Option<Vec<Name>>, printer: &mut Printer<'_, W>)
     ensures { Prints W.contents printer.old printer.new (32 ∷ path_or_dash (names_in path.now)) }
 {
     match path {

@@ -18,7 +18,6 @@ pub enum Command {
     Close,
     Clean,
     Create,
-    Changes,
     Due,
     Default,
     GroupMake,
@@ -43,7 +42,6 @@ pub enum Command {
     Restore,
     RemoveDir,
     Restorable,
-    Removals,
     Save,
     Stat,
     Story,
@@ -80,7 +78,7 @@ pub type Row = (
 
 /// A row for each command, in the order of `Command`: those with one first letter stand together, and
 /// of these the ones that come often first.
-pub static ROWS: [Row; 46] = [
+pub static ROWS: [Row; 44] = [
     (Command::Ahead, "ahead", "", &[Moment], Explaining),
     (Command::Answers, "answers", "", &[], Explaining),
     (Command::Abandon, "abandon", "", &[Handle], Always),
@@ -88,13 +86,6 @@ pub static ROWS: [Row; 46] = [
     (Command::Close, "close", "", &[Handle], Always),
     (Command::Clean, "clean", "", &[], Always),
     (Command::Create, "create", "", &[Path], Always),
-    (
-        Command::Changes,
-        "changes",
-        "",
-        &[Moment, Moment, Path],
-        Explaining,
-    ),
     (Command::Due, "due", "", &[], Always),
     (Command::Default, "default", "", &[Path, Policy], Always),
     (Command::GroupMake, "group", "make", &[Name], Always),
@@ -125,7 +116,6 @@ pub static ROWS: [Row; 46] = [
     (Command::Restore, "restore", "", &[Path, Moment], Always),
     (Command::RemoveDir, "rmdir", "", &[Path], Always),
     (Command::Restorable, "restorable", "", &[], Always),
-    (Command::Removals, "removals", "", &[], Explaining),
     (Command::Save, "save", "", &[Path, Bytes], Always),
     (Command::Stat, "stat", "", &[Tagged], Always),
     (Command::Story, "story", "", &[Path], Explaining),
@@ -171,7 +161,7 @@ pub enum Topic {
 }
 
 /// For help, what each command is about and how it is answered, in the order of `Command`.
-pub static HELP: [(Topic, &str); 46] = [
+pub static HELP: [(Topic, &str); 44] = [
     (
         Topic::Why,
         "ok ahead K, then K lines - RIPE FILE NUMBER in order",
@@ -188,10 +178,6 @@ pub static HELP: [(Topic, &str); 46] = [
         "ok removed RIPE FILE NUMBER, or ok nothing",
     ),
     (Topic::Names, "ok file F"),
-    (
-        Topic::Why,
-        "ok changes K, then K lines - KIND TARGET V V PATH PATH in order",
-    ),
     (
         Topic::Questions,
         "ok due K, then K lines - RIPE FILE NUMBER in order",
@@ -239,10 +225,6 @@ pub static HELP: [(Topic, &str); 46] = [
     (
         Topic::Questions,
         "ok restorable K, then K lines - DIR NAME file F or - DIR NAME directory D in order",
-    ),
-    (
-        Topic::Why,
-        "ok removals F K, then K lines - MOMENT FILE NUMBER PATH UNTIL FATE in order",
     ),
     (Topic::Contents, "ok version V"),
     (

@@ -2,7 +2,7 @@
 //! examples.
 
 /// What a command does, and an example or nothing, in the order of `Command`.
-pub(crate) static PARAGRAPHS: [(&str, &str); 46] = [
+pub(crate) static PARAGRAPHS: [(&str, &str); 44] = [
     // ahead
     (
         "Lists what 'due' would list at M if only the clock moves. It needs the option\n--explain. NotAhead if M is earlier than now.",
@@ -37,11 +37,6 @@ pub(crate) static PARAGRAPHS: [(&str, &str); 46] = [
     (
         "Makes a file with an empty version 1. Its policy is the default of its\ndirectory. Exists if the name is in use, NoEntry if the directory isn't there.",
         "\nExample:\n    create /notes    ok file 1\n",
-    ),
-    // changes
-    (
-        "Lists what changed between the moments M and U: each name that was made, is\nback, or was linked, renamed, deleted or unlinked, and each file with another\nversion. The columns are the versions and the paths of M and of U; '-' is none.\n'forgotten' is a file of which neither version is held. With P only what is at P\nor below. It needs the option --explain. Future if U is later than now, NotAhead\nif it is earlier than M.",
-        "\nExample:\n    clock 5        ok now 5 1970-01-01T00:00:05Z\n    create /f      ok file 1\n    changes 4 5    ok changes 1\n                   - made file 1 - 1 - /f\n",
     ),
     // due
     (
@@ -162,11 +157,6 @@ pub(crate) static PARAGRAPHS: [(&str, &str); 46] = [
     (
         "Lists the deleted names that 'undelete' can restore. It is never refused.",
         "\nExample:\n    create /f     ok file 1\n    unlink /f     ok done\n    restorable    ok restorable 1\n                  - 0 f file 1\n",
-    ),
-    // removals
-    (
-        "Lists the versions that the stored events removed, as 'gone' does, with the last\npath of the file: the one that led to it just before, or the last one that did,\nand until when ('-' if it still led there). 'held G M' before the fate is the\nmark that held the version longer than its policy. It needs the option\n--explain. It is never refused.",
-        "\nExample:\n    default / one    ok done\n    create /f        ok file 1\n    unlink /f        ok done\n    clean            ok removed 0 1 1\n    removals         ok removals 0 1\n                     - 0 1 1 /f 0 due 0 at once\n",
     ),
     // save
     (

@@ -37,8 +37,7 @@ const NUMBERS: &str = "Print the number of its line before each answer, and on\n
 const REMARKS: &str = "Skip lines that begin with `#`";
 
 const EXPLAIN: &str = "Answer `why`, `ahead`, `handles`, `gone`,\n\
-    `removals`, `answers`, `story` and `changes` too: see\n\
-    `elephant help script`";
+    `answers` and `story` too: see `elephant help script`";
 
 const BAD_EVENTS: &str = "error: --events takes a number from 1 to 1000000000, \
     without a leading zero\n\nFor more information, try 'elephant run --help'.\n";

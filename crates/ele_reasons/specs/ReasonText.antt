@@ -37,7 +37,6 @@ behind_text (kind ∷ kinds) = codes ", " ++ kind_text kind ++ behind_text kinds
 abbrev pub takes_text : List WordKind → List ℕ
 takes_text [] = codes "no words"
 takes_text (PathWord ∷ PathWord ∷ []) = codes "two paths"
-takes_text (MomentWord ∷ MomentWord ∷ PathWord ∷ []) = codes "two moments, and a path or none"
 takes_text (kind ∷ kinds) = kind_text kind ++ behind_text kinds
 
 -- what to add if a command that begins with a path has too many words

@@ -96,9 +96,6 @@ fn put_takes<W: Write>(kinds: &[WordKind], printer: &mut Printer<'_, W>)
     match kinds {
         [] => printer.put(b"no words"),
         [WordKind::Path, WordKind::Path] => printer.put(b"two paths"),
-        [WordKind::Moment, WordKind::Moment, WordKind::Path] => {
-            printer.put(b"two moments, and a path or none");
-        }
         [kind, kinds @ ..] => put_first(*kind, kinds, printer),
     }
 }

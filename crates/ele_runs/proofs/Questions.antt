@@ -1,5 +1,5 @@
 -- Answers to events and questions, over a history or a core alone.
-use Rattle.ele_runs.proofs.Basics.{ℕ, List, Option}
+use Rattle.ele_runs.proofs.Basics.{ℕ, Option}
 use Rattle.ele_history.specs.Past.{Past, world_of}
 use Rattle.ele_history.specs.Reply.{MayStop}
 use Rattle.ele_model.specs.World.{World}
@@ -8,9 +8,9 @@ use Rattle.ele_model.specs.declared.refusal.Stop.{Stop}
 use Rattle.ele_model.specs.declared.refusal.Stop.TheVariants.{NoMemory, HistoryFull}
 use Rattle.ele_model.specs.declared.reply.Reply.{Reply}
 use Rattle.ele_runs.specs.Kept.{Plain, Recorded}
-use Rattle.ele_runs.specs.Said.{Explains, Records, SaysAhead, SaysChanges}
+use Rattle.ele_runs.specs.Said.{Explains, Records, SaysAhead}
 use Rattle.ele_runs.specs.declared.said.Said.{Said}
-use Rattle.ele_runs.specs.declared.said.Said.TheVariants.{Ahead, Changes, Stopped}
+use Rattle.ele_runs.specs.declared.said.Said.TheVariants.{Ahead, Stopped}
 use Rattle.ele_script.specs.declared.reading.Question.TheVariants as question
 
 -- a history stopped the event
@@ -29,15 +29,3 @@ pub ahead_alone : (w : World) (last : Option Reply) (moment : ℕ) (said : Said)
 ahead_alone w last moment (Ahead told) says = says
 ahead_alone w last moment (Stopped stop) says = says
 ahead_alone w last moment said says = absurd says
-
--- what changed, over a history
-pub changes_recorded : (past : Past) (first second : ℕ) (within : Option (List (List ℕ))) (said : Said) → SaysChanges (world_of past) first second within said → Explains (Recorded past) (question.Changes first second within) said
-changes_recorded past first second within (Changes told) says = says
-changes_recorded past first second within (Stopped stop) says = (says, tt)
-changes_recorded past first second within said says = absurd says
-
--- and over a core alone
-pub changes_alone : (w : World) (last : Option Reply) (first second : ℕ) (within : Option (List (List ℕ))) (said : Said) → SaysChanges w first second within said → Explains (Plain w last) (question.Changes first second within) said
-changes_alone w last first second within (Changes told) says = says
-changes_alone w last first second within (Stopped stop) says = (says, tt)
-changes_alone w last first second within said says = absurd says

@@ -6,9 +6,6 @@ use Rattle.ele_audit.specs.Removals.{AreRemoved, HasRemovals, IsRemovedVersion, 
 use Rattle.ele_audit.specs.Story.{IsStory}
 use Rattle.ele_audit.specs.StoryText.{story_text}
 use Rattle.ele_audit.specs.declared.row.Removed.{Removed}
-use Rattle.ele_change_text.specs.ChangeText.{changes_text}
-use Rattle.ele_change_paths.specs.PathChanges.{IsDifference}
-use Rattle.ele_changes.specs.declared.change.Span.{Span}
 use Rattle.ele_history.specs.Past.{Past, world_of}
 use Rattle.ele_model.specs.Change.{Time, after_change}
 use Rattle.ele_model.specs.Scan.{scan}
@@ -28,13 +25,11 @@ use Rattle.ele_printer.specs.Printed.{IsReplyText, bad_text, pass_text, stop_tex
 use Rattle.ele_printer.specs.Why.{ahead_text, why_text}
 use Rattle.ele_printer.specs.declared.fault.LineFault.{LineFault}
 use Rattle.ele_printer.specs.declared.fault.LineFault.TheVariants.{Syntax, LineTooLong}
-use Rattle.ele_removals.specs.RemovalText.{removals_text}
-use Rattle.ele_removals.specs.Removals.{AreTold}
 use Rattle.ele_run_options.specs.RunOptions.{front_of, heard}
 use Rattle.ele_run_options.specs.declared.options.RunOptions.{RunOptions}
 use Rattle.ele_runs.specs.Kept.{Kept, Plain, Recorded, Answered, Folds, HasEntries, Passes, Stays, StopsEvent, has_past, world_in}
 use Rattle.ele_runs.specs.declared.said.Said.{Said}
-use Rattle.ele_runs.specs.declared.said.Said.TheVariants.{Nothing, Bad, Stopped, Replied, Passed, History, Trimmed, Why, WhyRemoved, Ahead, Gone, Handles, Answers, Story, Removals, Changes}
+use Rattle.ele_runs.specs.declared.said.Said.TheVariants.{Nothing, Bad, Stopped, Replied, Passed, History, Trimmed, Why, WhyRemoved, Ahead, Gone, Handles, Answers, Story}
 use Rattle.ele_script.specs.FirstFault.{IsFirstFault}
 use Rattle.ele_script.specs.Memory.{TakesMemory}
 use Rattle.ele_script.specs.Spells.{Asks}
@@ -65,21 +60,15 @@ pub record IsWhyRemoved (past : Past) (tagged : TaggedPath) (row : Removed) : Ty
 abbrev pub TakesKeys : World → ℕ → Type 0
 TakesKeys w moment = (w.now ≤ moment) × (scan (after_change w (Time moment)) ≢ [])
 
--- two moments
-abbrev pub span_of : (first second : ℕ) → Span
-span_of first second = record { first = first; second = second }
-
--- a question may take memory. With a history: `why` if a stored entry removed a version with that number, `gone` and `removals` after a removal,
--- `handles` while one is open. With one or without: `ahead`, and any `story` or `changes`
+-- a question may take memory. With a history: `why` if a stored entry removed a version with that number, `gone` after a removal,
+-- `handles` while one is open. With one or without: `ahead`, and any `story`
 abbrev pub MayTake : Kept → Question → Type 0
 MayTake (Recorded past) (question.Why tagged) = MayBeRemoved past tagged.tag
 MayTake (Recorded past) (question.Ahead moment) = TakesKeys (world_of past) moment
 MayTake (Recorded past) question.Gone = HasRemovals past
-MayTake (Recorded past) question.Removals = HasRemovals past
 MayTake (Recorded past) question.Handles = (world_of past).handles ≢ []
 MayTake (Plain w last) (question.Ahead moment) = TakesKeys w moment
 MayTake kept (question.Story path) = Unit {0}
-MayTake kept (question.Changes first second within) = Unit {0}
 MayTake kept asked = ⊥
 
 -- the answer to a question; a core alone answers only some
@@ -93,8 +82,6 @@ Says (Handles handles) (Recorded past) question.Handles = AreOpen past handles.i
 Says Answers (Recorded past) question.Answers = Unit {0}
 Says (Story told) (Recorded past) (question.Story path) = IsStory (removals past.base past.entries) (world_of past) path told
 Says (Story told) (Plain w last) (question.Story path) = IsStory [] w path told
-Says (Removals rows) (Recorded past) question.Removals = AreTold past rows.items
-Says (Changes told) kept (question.Changes first second within) = IsDifference (world_in kept) (span_of first second) within told
 Says said kept asked = ⊥
 
 -- a question that only a history answers
@@ -102,7 +89,6 @@ abbrev pub IsOfPast : Question → Type 0
 IsOfPast (question.Why tagged) = ⊥
 IsOfPast (question.Ahead moment) = ⊥
 IsOfPast (question.Story path) = ⊥
-IsOfPast (question.Changes first second within) = ⊥
 IsOfPast asked = Unit {0}
 
 -- ---- lines
@@ -179,8 +165,6 @@ IsText last folded entries (Gone rows) text = text ≡ gone_text folded rows.ite
 IsText last folded entries (Handles handles) text = text ≡ handles_text handles.items
 IsText last folded entries Answers text = IsAnswersText folded entries text
 IsText last folded entries (Story told) text = text ≡ story_text told
-IsText last folded entries (Removals rows) text = text ≡ removals_text folded rows.items
-IsText last folded entries (Changes told) text = text ≡ changes_text told
 
 -- the bytes before the answer
 abbrev pub said_front : RunOptions → ℕ → Said → List ℕ
@@ -223,9 +207,3 @@ abbrev pub SaysAhead : World → ℕ → Said → Type 0
 SaysAhead w moment (Ahead told) = IsAhead w moment told
 SaysAhead w moment (Stopped stop) = (stop ≡ NoMemory) × TakesKeys w moment
 SaysAhead w moment said = ⊥
-
--- what changed between the moments; memory may stop it
-abbrev pub SaysChanges : World → (first second : ℕ) → Option (List (List ℕ)) → Said → Type 0
-SaysChanges w first second within (Changes told) = IsDifference w (span_of first second) within told
-SaysChanges w first second within (Stopped stop) = stop ≡ NoMemory
-SaysChanges w first second within said = ⊥

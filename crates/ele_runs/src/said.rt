@@ -7,7 +7,7 @@ ghost use Rattle.ele_model.specs.Why.{IsWhy};
 ghost use Rattle.ele_model.specs.declared.refusal.Refusal.TheVariants.{Forgotten};
 ghost use Rattle.ele_output.specs.Prints.{Prints};
 ghost use Rattle.ele_runs.specs.Kept.{Plain, Recorded, last_reply};
-ghost use Rattle.ele_runs.specs.Said.{Explains, HearsKept, IsLastText, IsText, MayMean, SaysAhead, SaysChanges, has_no_reply, said_front};
+ghost use Rattle.ele_runs.specs.Said.{Explains, HearsKept, IsLastText, IsText, MayMean, SaysAhead, has_no_reply, said_front};
 ghost use Rattle.ele_runs.specs.Tally.{outcome_for};
 ghost use Rattle.ele_script.specs.declared.reading.Question.TheVariants as question;
 
@@ -17,9 +17,6 @@ use ele_audit::{
     OpenHandle, Removed, Story, open_handles, put_answers, put_gone, put_handles, put_story,
     put_why_gone, removed, removed_version, story, story_alone,
 };
-use ele_change_paths::{Difference, changes_by_path};
-use ele_change_text::put_changes;
-use ele_changes::Span;
 use ele_history::History;
 use ele_model::{Entry, Explain, Fate, FromFlat, KeyList, Moment, PassEnd, Refusal, Reply, Stop};
 use ele_output::Printer;
@@ -28,7 +25,6 @@ use ele_printer::{
     put_ahead, put_answer, put_fault, put_history, put_in_front, put_pass, put_stop, put_trimmed,
     put_why,
 };
-use ele_removals::{Removal, put_removals, removals};
 use ele_run_options::RunOptions;
 use ele_script::{Line, LineFault, Question, read_line_in};
 use std::alloc::Global;
@@ -65,10 +61,6 @@ pub enum Said {
     Answers,
     /// The story of the file that it asks about, or why its path never named one.
     Story(Result<Story, Refusal>),
-    /// The versions that the history removed, with their last names.
-    Removals(Vec<Removal>),
-    /// What changed between the moments that it asks about, or why these are refused.
-    Changes(Result<Difference, Refusal>),
 }
 
 /// Answers a line as it is kept, over whatever keeps the world.
@@ -124,7 +116,7 @@ fn hear<K: Keep>(alloc: Global, explains: bool, line: &[u8], keeper: &mut K) -> 
 }
 
 /// Answers a question about a history.
-#[tactic(auto, using(crate::proofs::Questions::ahead_recorded, crate::proofs::Questions::changes_recorded))]
+#[tactic(auto, using(crate::proofs::Questions::ahead_recorded))]
 pub(crate) fn explain<C: Explain + FromFlat>(
     alloc: Global,
     question: &Question,
@@ -145,18 +137,11 @@ pub(crate) fn explain<C: Explain + FromFlat>(
         },
         Question::Answers => Said::Answers,
         Question::Story(path) => explain_story(alloc, path, history),
-        Question::Removals => match removals(alloc, history) {
-            Ok(rows) => Said::Removals(rows),
-            Err(_) => Said::Stopped(Stop::NoMemory),
-        },
-        Question::Changes(first, second, within) => {
-            explain_changes(*first, *second, within, history.core())
-        }
     }
 }
 
 /// Answers a question about a core alone.
-#[tactic(auto, using(crate::proofs::Questions::ahead_alone, crate::proofs::Questions::changes_alone))]
+#[tactic(auto, using(crate::proofs::Questions::ahead_alone))]
 pub fn explain_alone<C: Explain>(question: &Question, core: &C) -> Said
     ensures { Explains (Plain (C.world core.now) None) question.now result }
 {
@@ -164,10 +149,7 @@ pub fn explain_alone<C: Explain>(question: &Question, core: &C) -> Said
         Question::Why(tagged) => Said::Why(core.fate_at(tagged)),
         Question::Ahead(moment) => explain_ahead(*moment, core),
         Question::Story(path) => explain_story_alone(path, core),
-        Question::Changes(first, second, within) => explain_changes(*first, *second, within, core),
-        Question::Gone | Question::Handles | Question::Answers | Question::Removals => {
-            Said::Bad(LineFault::Syntax)
-        }
+        Question::Gone | Question::Handles | Question::Answers => Said::Bad(LineFault::Syntax),
     }
 }
 
@@ -224,21 +206,6 @@ fn explain_story_alone<C: Explain>(path: &Path, core: &C) -> Said
     }
 }
 
-// Returns what changed between the moments, at the path if there is one.
-fn explain_changes<C: Explain>(
-    first: Moment,
-    second: Moment,
-    within: &Option<Path>,
-    core: &C,
-) -> Said
-    ensures { SaysChanges (C.world core.now) first second within.now result }
-{
-    match changes_by_path(&Span { first, second }, within, core) {
-        Ok(told) => Said::Changes(told),
-        Err(_) => Said::Stopped(Stop::NoMemory),
-    }
-}
-
 // Returns what will be due at the moment. It takes no memory if nothing is due by then.
 fn explain_ahead<C: Explain>(moment: Moment, core: &C) -> Said
     ensures { SaysAhead (C.world core.now) moment result }
@@ -260,8 +227,7 @@ impl Said {
         match self {
             Said::Bad(_) => Outcome::Bad,
             Said::Stopped(_) | Said::Passed(PassEnd::Stopped(_, _)) => Outcome::Stopped,
-            Said::Why(Err(_)) | Said::Ahead(Err(_)) | Said::Story(Err(_)) | Said::Changes(Err(_)) =>
-                { Outcome::Refused }
+            Said::Why(Err(_)) | Said::Ahead(Err(_)) | Said::Story(Err(_)) => Outcome::Refused,
             Said::Replied => match last {
                 Some(Reply::Refused(_)) => Outcome::Refused,
                 _ => Outcome::Well,
@@ -313,8 +279,6 @@ impl Said {
             Said::Handles(handles) => put_handles(handles.as_slice(), printer),
             Said::Answers => put_answers(folded, entries, printer),
             Said::Story(told) => put_story(told, printer),
-            Said::Removals(rows) => put_removals(folded, rows.as_slice(), printer),
-            Said::Changes(told) => put_changes(told, printer),
         }
     }
 }

@@ -1,2 +1,0 @@
-mod Basics
-mod Lines

@@ -1,3 +1,0 @@
-mod Basics
-mod Lines
-mod Replays

@@ -1,2 +1,0 @@
-pub mod Removals
-pub mod RemovalText
