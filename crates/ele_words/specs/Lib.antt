@@ -1,4 +1,5 @@
 pub mod Ends
+pub mod Evidence
 pub mod Forecasts
 pub mod Progress
 pub mod RunEnds
@@ -9,3 +10,4 @@ pub mod Summary
 pub mod SystemError
 pub mod SystemReason
 pub mod Watched
+pub mod Written
