@@ -1,4 +1,1 @@
-pub mod Checked
 pub mod EvidenceText
-pub mod Verdict
-pub mod VerdictText

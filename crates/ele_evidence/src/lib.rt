@@ -2,11 +2,7 @@
 //! text as its bytes, and a history as its entries.
 #![tactic(auto)]
 
-mod checking;
 mod row;
 mod text;
-mod verdict;
 
-pub use checking::{line_of, verify};
-pub use text::{evidence, is_evidence, put_evidence};
-pub use verdict::{Fault, Verdict, verdict_line};
+pub use text::{is_evidence, put_evidence};

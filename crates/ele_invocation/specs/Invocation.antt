@@ -9,7 +9,7 @@ use Rattle.ele_invocation.specs.Storms.{AsksStorm}
 use Rattle.ele_invocation.specs.Forecasts.{AsksForecast}
 use Rattle.ele_invocation.specs.Topics.{topic_in}
 use Rattle.ele_invocation.specs.declared.invocation.Invocation.{Invocation}
-use Rattle.ele_invocation.specs.declared.invocation.Invocation.TheVariants.{Run, Storm, Forecast, Evidence, Verify, Help, NotUnderstood, NoMemory}
+use Rattle.ele_invocation.specs.declared.invocation.Invocation.TheVariants.{Run, Storm, Forecast, Help, NotUnderstood, NoMemory}
 use Rattle.clap.specs.Words.{App, IsAmong, Kinds, Row, Text, fault_of, subcommand_of}
 use Rattle.clap.specs.declared.error.kind.ErrorKind.{ErrorKind}
 use Rattle.clap.specs.declared.error.kind.ErrorKind.TheVariants.{DisplayHelp, DisplayVersion}
@@ -24,8 +24,6 @@ abbrev pub IsRefusal : Invocation → Type 0
 IsRefusal (Run limits options) = ⊥
 IsRefusal (Storm plan) = ⊥
 IsRefusal (Forecast ask) = ⊥
-IsRefusal Evidence = ⊥
-IsRefusal Verify = ⊥
 IsRefusal (Help text) = ⊥
 IsRefusal (NotUnderstood text) = Unit {0}
 IsRefusal NoMemory = Unit {0}
@@ -64,9 +62,7 @@ IsCommand name rows asked =
     MatchBool (bytes_eq name (codes "run")) (IsRun rows asked)
     (MatchBool (bytes_eq name (codes "storm")) (IsStorm rows asked)
     (MatchBool (bytes_eq name (codes "forecast")) (IsForecast rows asked)
-    (MatchBool (bytes_eq name (codes "evidence")) (asked ≡ Evidence)
-    (MatchBool (bytes_eq name (codes "verify")) (asked ≡ Verify)
-    (MatchBool (bytes_eq name (codes "script")) (IsHelp true asked) (IsRefusal asked))))))
+    (MatchBool (bytes_eq name (codes "script")) (IsHelp true asked) (IsRefusal asked))))
 
 -- an error of clap: help and the version are shown, and all others refuse the words
 abbrev pub IsShown : ErrorKind → Invocation → Type 0

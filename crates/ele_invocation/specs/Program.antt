@@ -41,12 +41,6 @@ forecast_shape = command_shape (codes "forecast") (required_rule (codes "policy"
     ∷ flag_rule (codes "svg") ∷ option_rule (codes "title") ∷ flag_rule (codes "json") ∷ flag_rule (codes "csv")
     ∷ repeated_rule (codes "rule") ∷ option_rule (codes "offset") ∷ [])
 
-abbrev pub evidence_shape : Shape
-evidence_shape = command_shape (codes "evidence") []
-
-abbrev pub verify_shape : Shape
-verify_shape = command_shape (codes "verify") []
-
 -- prints the topic of that name
 abbrev pub script_shape : Shape
 script_shape = command_shape (codes "script") []
@@ -64,7 +58,7 @@ abbrev pub program_app : List Shape → App
 program_app commands = record { top = record program_shape { is_leaf = false }; subs = commands }
 
 abbrev pub all_commands : List Shape
-all_commands = run_shape ∷ storm_shape ∷ forecast_shape ∷ evidence_shape ∷ verify_shape ∷ script_shape ∷ []
+all_commands = run_shape ∷ storm_shape ∷ forecast_shape ∷ script_shape ∷ []
 
 -- the commands that clap gets: the one that this word names, and otherwise each
 abbrev pub commands_for : Text → List Shape

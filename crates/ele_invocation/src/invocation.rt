@@ -30,7 +30,6 @@ ghost use Rattle.ele_invocation.specs.Program.{
 };
 ghost use Rattle.clap.specs.Words.{found_of, kind_of, new_app, rows_of, subcommand_rows_of};
 
-use crate::evidence::{EVIDENCE, EVIDENCE_MORE, VERIFY, VERIFY_MORE};
 use crate::forecast::{asked_forecast, forecast};
 use crate::run::{asked_run, run};
 use crate::storm::{asked_storm, storm};
@@ -54,10 +53,6 @@ pub enum Invocation {
     Storm(StormPlan),
     /// A forecast of the closings on standard input.
     Forecast(ForecastOptions),
-    /// The evidence of the history that the script on standard input makes, under the largest limits.
-    Evidence,
-    /// Whether the text on standard input is the evidence of such a history.
-    Verify,
     /// A text of help, or the version. The program ends with status 0.
     Help(String),
     /// The arguments aren't understood, for the reason in the text. The program ends with status 2.
@@ -87,8 +82,7 @@ reads it as it was:
 
 'elephant run < FILE' runs the script in FILE, and 'elephant help script' lists
 all commands. 'elephant help TOPIC' explains script, policies, refusals, limits,
-run, storm, forecast, evidence, verify, or a command, as in
-'elephant help create'.";
+run, storm, forecast, or a command, as in 'elephant help create'.";
 
 const SCRIPT: &str = "List the commands of scripts";
 
@@ -151,8 +145,6 @@ fn whole_program<'a>(alloc: Global) -> Result<Command<'a>, AllocError>
         .subcommand(run(alloc)?)?
         .subcommand(storm(alloc)?)?
         .subcommand(forecast(alloc)?)?
-        .subcommand(command_of(alloc, "evidence", EVIDENCE, EVIDENCE_MORE))?
-        .subcommand(command_of(alloc, "verify", VERIFY, VERIFY_MORE))?
         .subcommand(command_of(alloc, "script", SCRIPT, ALL_COMMANDS))
 }
 
@@ -197,8 +189,6 @@ fn asked_by(alloc: Global, name: &str, matches: &ArgMatches) -> Invocation
         "run" => asked_run(alloc, matches),
         "storm" => asked_storm(alloc, matches),
         "forecast" => asked_forecast(alloc, matches),
-        "evidence" => Invocation::Evidence,
-        "verify" => Invocation::Verify,
         "script" => asked_topic(alloc, name, None),
         _ => not_understood(alloc, NO_COMMAND),
     }

@@ -1,5 +1,4 @@
 pub mod Ends
-pub mod Evidence
 pub mod Forecasts
 pub mod Progress
 pub mod RunEnds
@@ -10,4 +9,3 @@ pub mod Summary
 pub mod SystemError
 pub mod SystemReason
 pub mod Watched
-pub mod Written

@@ -2,7 +2,6 @@
 //! A contract sees how a run ended, what the streams hold then, and the status.
 #![tactic(auto)]
 
-mod evidence;
 mod failure;
 mod forecasting;
 mod keeps_error;

@@ -1,7 +1,6 @@
 //! The program `elephant`. `elephant run` reads a script from standard input and writes its answers
 //! to standard output. `elephant storm` lets many threads call one core, and audits it. `elephant
-//! forecast` reads when a file closed, and prints what becomes of its versions. `elephant evidence`
-//! prints the history of a script as a text that `elephant verify` runs again.
+//! forecast` reads when a file closed, and prints what becomes of its versions.
 #![tactic(auto)]
 
 use ele_core::Core;
@@ -51,17 +50,11 @@ fn greet(rt: &HostRuntime, invocation: &Invocation) {
     }
 }
 
-// Whether what is asked for reads lines from standard input.
-fn reads_lines(invocation: &Invocation) -> bool {
-    matches!(
-        invocation,
-        Invocation::Run(_, _) | Invocation::Forecast(_) | Invocation::Evidence | Invocation::Verify
-    )
-}
-
-// Whether what is asked for shows its progress: at a terminal, if nobody types the input.
+// Whether a run or a forecast shows its progress: at a terminal, if nobody types the input.
 fn is_metered(rt: &HostRuntime, invocation: &Invocation) -> bool {
-    reads_lines(invocation) && rt.stderr().is_terminal() && !rt.stdin().is_terminal()
+    matches!(invocation, Invocation::Run(_, _) | Invocation::Forecast(_))
+        && rt.stderr().is_terminal()
+        && !rt.stdin().is_terminal()
 }
 
 fn main(rt: HostRuntime) -> ExitCode {
