@@ -1,17 +1,18 @@
 -- Which rows a rule keeps, and by what.
-use Rattle.std.specs.Prelude.{ℕ, zero, suc, ◌+◌, ◌==◌, List, [], ◌∷◌, length, Option, Some, None, replicate, if◌then◌else◌}
+use Rattle.std.specs.Prelude.{◌≡◌, ℕ, zero, suc, ◌+◌, ◌==◌, List, [], ◌∷◌, length, Option, Some, None, replicate, if◌then◌else◌}
 use Rattle.ele_lists.specs.Ends.{last_of}
 use Rattle.ele_peer_rules.specs.declared.limit.Limit.{Limit}
-use Rattle.ele_peer_rules.specs.declared.limit.Limit.TheVariants.{Number, All, Within}
+use Rattle.ele_peer_rules.specs.declared.limit.Limit.TheVariants.{Number, All, Within, Begin, Ago}
 use Rattle.ele_peer_rules.specs.declared.limit.Since.{Since}
 use Rattle.ele_peer_rules.specs.declared.part.Part.{Part}
 use Rattle.ele_peer_rules.specs.declared.part.Tool.{Tool}
-use Rattle.ele_peer_rules.specs.declared.part.Tool.TheVariants.{Restic, OldRestic, Borg, Snapper, Sanoid}
+use Rattle.ele_peer_rules.specs.declared.part.Tool.TheVariants.{Restic, OldRestic, Borg, Snapper, Sanoid, Btrbk}
 use Rattle.ele_peer_rules.specs.declared.reason.Reason.{Reason}
 use Rattle.ele_peer_rules.specs.declared.row.Row.{Row}
 use Rattle.ele_peer_rules.specs.declared.span.Span.{Span}
 use Rattle.ele_peer_rules.specs.declared.span.Span.TheVariants.{Each, Second, Minute, Hour, Day, Week, Month, Year}
 use Rattle.ele_peer_rules.specs.Marks.{after_part}
+use Rattle.ele_peer_rules.specs.Schedule.{IsScheduled}
 use Rattle.ele_peer_rules.specs.Spans.{rank_of_span}
 
 abbrev pub rank_within : Span → ℕ
@@ -28,9 +29,11 @@ abbrev pub rank_of_limit : Limit → Span → ℕ
 rank_of_limit (Number n) span = 1 + rank_of_span span
 rank_of_limit All span = 1 + rank_of_span span
 rank_of_limit (Within reach) span = rank_within span
+rank_of_limit (Begin n) span = if rank_of_span span == 4 then 16 else 17
+rank_of_limit (Ago n) span = 18
 
 -- a part's place in the order in which a tool takes them: all rows within a length of time, then numbers of rows from the
--- shortest span on, then the newest rows of spans within a length of time
+-- shortest span on, then the newest rows of spans within a length of time; options of other kinds mark no rows
 abbrev pub rank_of : Part → ℕ
 rank_of part = rank_of_limit part.limit part.span
 
@@ -46,6 +49,7 @@ after_others Restic since rows marks = marks
 after_others OldRestic since rows marks = marks
 after_others Borg since rows marks = marks
 after_others Snapper since rows marks = marks
+after_others Btrbk since rows marks = marks
 after_others Sanoid since rows marks = after_part Sanoid since (record { span = Each; limit = All }) rows marks
 
 -- what keeps each row after the parts of the first so many ranks, one rank after the other
@@ -67,7 +71,17 @@ since_of OldRestic now rows = of_newest (last_of rows)
 since_of Borg now rows = of_now now
 since_of Snapper now rows = of_now now
 since_of Sanoid now rows = of_now now
+since_of Btrbk now rows = of_now now
 
--- what keeps each row, if something does
+-- what keeps each row, if something does, but in btrbk
 abbrev pub kept_by : Tool → List Part → ℕ → List Row → List (Option Reason)
 kept_by tool parts now rows = after_ranks tool (since_of tool now rows) 16 parts rows
+
+-- the same in each tool
+abbrev pub IsKept : Tool → List Part → ℕ → List Row → List (Option Reason) → Type 0
+IsKept Restic parts now rows marks = marks ≡ kept_by Restic parts now rows
+IsKept OldRestic parts now rows marks = marks ≡ kept_by OldRestic parts now rows
+IsKept Borg parts now rows marks = marks ≡ kept_by Borg parts now rows
+IsKept Snapper parts now rows marks = marks ≡ kept_by Snapper parts now rows
+IsKept Sanoid parts now rows marks = marks ≡ kept_by Sanoid parts now rows
+IsKept Btrbk parts now rows marks = IsScheduled parts now rows marks

@@ -3,7 +3,7 @@ use Rattle.std.specs.Prelude.{ℕ, List, codes, nat_eq, if◌then◌else◌}
 use Rattle.std.specs.List.{after_first, ends_with, list_any, starts_with}
 use Rattle.ele_peer_rules.specs.declared.span.Span.{Span}
 use Rattle.ele_peer_rules.specs.declared.span.Span.TheVariants.{Each, Minute, Hour, Day, Week, Month, Year}
-use Rattle.ele_peer_rules.specs.Words.{is_mark}
+use Rattle.ele_peer_rules.specs.Marked.{is_mark}
 
 -- what follows the `@` (64) behind a file system's name, if there is one
 abbrev pub snapshot_name : List ℕ → List ℕ

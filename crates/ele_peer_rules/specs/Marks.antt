@@ -1,11 +1,11 @@
 -- What one part of a rule keeps, of rows in order of time, beside what the parts before it keep.
 use Rattle.std.specs.Prelude.{ℕ, ◌+◌, ◌*◌, nat_le, nat_lt, Bool, true, false, ◌&&◌, ◌||◌, List, [], ◌∷◌, Option, Some, None, if◌then◌else◌}
 use Rattle.ele_peer_rules.specs.declared.limit.Limit.{Limit}
-use Rattle.ele_peer_rules.specs.declared.limit.Limit.TheVariants.{Number, All, Within}
+use Rattle.ele_peer_rules.specs.declared.limit.Limit.TheVariants.{Number, All, Within, Begin, Ago}
 use Rattle.ele_peer_rules.specs.declared.limit.Since.{Since}
 use Rattle.ele_peer_rules.specs.declared.part.Part.{Part}
 use Rattle.ele_peer_rules.specs.declared.part.Tool.{Tool}
-use Rattle.ele_peer_rules.specs.declared.part.Tool.TheVariants.{Restic, OldRestic, Borg, Snapper, Sanoid}
+use Rattle.ele_peer_rules.specs.declared.part.Tool.TheVariants.{Restic, OldRestic, Borg, Snapper, Sanoid, Btrbk}
 use Rattle.ele_peer_rules.specs.declared.reason.By.{By}
 use Rattle.ele_peer_rules.specs.declared.reason.By.TheVariants.{Count, Age, Oldest, Other}
 use Rattle.ele_peer_rules.specs.declared.reason.Reason.{Reason}
@@ -22,14 +22,17 @@ counts_kept OldRestic = true
 counts_kept Borg = false
 counts_kept Snapper = true
 counts_kept Sanoid = true
+counts_kept Btrbk = true
 
--- which rows a part takes: the newest row of each span, in snapper the first one, and in sanoid the rows that have its name
+-- which rows a part takes: the newest row of each span, in snapper the first one, and in sanoid the rows that have its name;
+-- btrbk takes rows otherwise
 abbrev pub takes : Tool → Span → Option Row → Row → List Row → Bool
 takes Restic span before row newer = is_newest span row newer
 takes OldRestic span before row newer = is_newest span row newer
 takes Borg span before row newer = is_newest span row newer
 takes Snapper span before row newer = is_first span before row
 takes Sanoid span before row newer = is_of span row
+takes Btrbk span before row newer = false
 
 -- the oldest row of all is kept too while the part may keep more: in borg by a number, in restic always, but not up to 0.15
 abbrev pub keeps_oldest : Tool → Limit → Bool
@@ -38,8 +41,11 @@ keeps_oldest OldRestic limit = false
 keeps_oldest Borg (Number n) = true
 keeps_oldest Borg All = false
 keeps_oldest Borg (Within reach) = false
+keeps_oldest Borg (Begin n) = false
+keeps_oldest Borg (Ago n) = false
 keeps_oldest Snapper limit = false
 keeps_oldest Sanoid limit = false
+keeps_oldest Btrbk limit = false
 
 -- no row is before it
 abbrev pub is_oldest : Option Row → Bool
@@ -66,6 +72,8 @@ abbrev pub is_allowed : Limit → Since → ℕ → Row → Bool
 is_allowed (Number n) since counted row = nat_lt counted n
 is_allowed All since counted row = true
 is_allowed (Within reach) since counted row = is_within reach since row
+is_allowed (Begin n) since counted row = false
+is_allowed (Ago n) since counted row = false
 
 -- the seconds of sanoid's periods: a month is 31 days, a year 365.25 days, and `frequently` is each 15 minutes
 abbrev pub period : Span → ℕ
@@ -83,6 +91,8 @@ abbrev pub is_young : Limit → Span → Since → Row → Bool
 is_young (Number n) span since row = nat_le since.moment (row.moment + n * period span)
 is_young All span since row = false
 is_young (Within reach) span since row = false
+is_young (Begin n) span since row = false
+is_young (Ago n) span since row = false
 
 -- sanoid keeps it then too
 abbrev pub stays_young : Tool → Part → Since → Row → Bool
@@ -90,12 +100,15 @@ stays_young Restic part since row = false
 stays_young OldRestic part since row = false
 stays_young Borg part since row = false
 stays_young Snapper part since row = false
+stays_young Btrbk part since row = false
 stays_young Sanoid part since row = is_young part.limit part.span since row
 
 abbrev pub by_limit : Limit → By
 by_limit (Number n) = Count
 by_limit All = Count
 by_limit (Within reach) = Age
+by_limit (Begin n) = Age
+by_limit (Ago n) = Age
 
 -- the rows of no kind are other ones to sanoid
 abbrev pub by_kind : Span → Limit → By
@@ -113,6 +126,7 @@ by_tool Restic part = by_limit part.limit
 by_tool OldRestic part = by_limit part.limit
 by_tool Borg part = by_limit part.limit
 by_tool Snapper part = by_limit part.limit
+by_tool Btrbk part = by_limit part.limit
 by_tool Sanoid part = by_kind part.span part.limit
 
 -- by what a part keeps a row, which it may take, and may allow by its limit

@@ -19,7 +19,7 @@ pub(crate) fn read_reach(tool: Tool, word: &[u8]) -> Option<Reach>
         Tool::Restic | Tool::OldRestic => read_restic(word),
         Tool::Borg => read_borg(word),
         Tool::Snapper => read_seconds(word),
-        Tool::Sanoid => None,
+        Tool::Sanoid | Tool::Btrbk => None,
     }
 }
 
@@ -30,7 +30,7 @@ pub(crate) fn read_rows(tool: Tool, word: &[u8]) -> Option<u64>
 {
     match tool {
         Tool::Restic | Tool::OldRestic | Tool::Borg => read_some(word),
-        Tool::Snapper | Tool::Sanoid => read_number(word),
+        Tool::Snapper | Tool::Sanoid | Tool::Btrbk => read_number(word),
     }
 }
 

@@ -4,6 +4,7 @@
 
 mod calendar;
 mod cut;
+mod items;
 mod kind;
 mod length;
 mod limit;
@@ -14,6 +15,7 @@ mod reading;
 mod reason;
 mod row;
 mod rule;
+mod schedule;
 mod span;
 
 pub use calendar::Month;

@@ -15,13 +15,18 @@ pub struct Reach {
     pub seconds: u64,
 }
 
-/// How many rows are kept: the newest so many, all, or those within a length of time.
+/// How many rows are kept: the newest so many, all, or those within a length of time. btrbk's count spans before now, and two
+/// of its options say when its spans begin.
 #[derive(Clone, Copy, Default)]
 pub enum Limit {
     Number(u64),
     #[default]
     All,
     Within(Reach),
+    /// At which hour days begin, or on which day weeks do, from 0 for Sunday.
+    Begin(u64),
+    /// All rows of the last spans, up to so many ago.
+    Ago(u64),
 }
 
 /// The moment from which a length of time reaches back, and its month.
@@ -56,6 +61,7 @@ impl Limit {
             Limit::Number(number) => newer < number,
             Limit::All => true,
             Limit::Within(reach) => reach.has(since, row),
+            Limit::Begin(_) | Limit::Ago(_) => false,
         }
     }
 
@@ -65,7 +71,7 @@ impl Limit {
     {
         match self {
             Limit::Number(number) => lasts(number, span, since, row),
-            Limit::All | Limit::Within(_) => false,
+            Limit::All | Limit::Within(_) | Limit::Begin(_) | Limit::Ago(_) => false,
         }
     }
 }

@@ -28,7 +28,9 @@ fn by_tool(tool: Tool, part: Part) -> By
     ensures { result ≡ by_tool tool part }
 {
     match tool {
-        Tool::Restic | Tool::OldRestic | Tool::Borg | Tool::Snapper => by_limit(part.limit),
+        Tool::Restic | Tool::OldRestic | Tool::Borg | Tool::Snapper | Tool::Btrbk => by_limit(
+            part.limit,
+        ),
         Tool::Sanoid => by_kind(part.span, part.limit),
     }
 }
@@ -53,7 +55,7 @@ fn by_limit(limit: Limit) -> By
 {
     match limit {
         Limit::Number(_) | Limit::All => By::Count,
-        Limit::Within(_) => By::Age,
+        Limit::Within(_) | Limit::Begin(_) | Limit::Ago(_) => By::Age,
     }
 }
 
@@ -62,7 +64,7 @@ fn stays_young(tool: Tool, part: Part, since: &Since, row: &Row) -> bool
     ensures { result ≡ stays_young tool part since.now row.now }
 {
     match tool {
-        Tool::Restic | Tool::OldRestic | Tool::Borg | Tool::Snapper => false,
+        Tool::Restic | Tool::OldRestic | Tool::Borg | Tool::Snapper | Tool::Btrbk => false,
         Tool::Sanoid => part.limit.is_young(part.span, since, row),
     }
 }
@@ -75,6 +77,7 @@ fn takes(tool: Tool, span: Span, older: &[Row], row: &Row, newer: &[Row]) -> boo
         Tool::Restic | Tool::OldRestic | Tool::Borg => span.is_newest(row, newer),
         Tool::Snapper => span.is_first(older, row),
         Tool::Sanoid => span.is_of(row),
+        Tool::Btrbk => false,
     }
 }
 

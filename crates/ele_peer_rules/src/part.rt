@@ -19,6 +19,8 @@ pub enum Tool {
     Snapper,
     /// sanoid, which tells the kind of a snapshot by its name.
     Sanoid,
+    /// btrbk, which keeps the first row of each span, up to so many spans ago.
+    Btrbk,
 }
 
 /// Keeps a row of each span, within a limit: the newest one, or the one that its tool takes.
@@ -34,7 +36,7 @@ impl Tool {
         ensures { result ≡ counts_kept self }
     {
         match self {
-            Tool::Restic | Tool::OldRestic | Tool::Snapper | Tool::Sanoid => true,
+            Tool::Restic | Tool::OldRestic | Tool::Snapper | Tool::Sanoid | Tool::Btrbk => true,
             Tool::Borg => false,
         }
     }
@@ -45,7 +47,7 @@ impl Tool {
     {
         match self {
             Tool::Restic => true,
-            Tool::OldRestic | Tool::Snapper | Tool::Sanoid => false,
+            Tool::OldRestic | Tool::Snapper | Tool::Sanoid | Tool::Btrbk => false,
             Tool::Borg => matches!(limit, Limit::Number(_)),
         }
     }
@@ -55,13 +57,16 @@ impl Part {
     /// The part's place in the order in which a tool takes them. Two parts of one rank say the same of a rule.
     pub(crate) fn rank(self) -> u8
         ensures rank { result ≡ rank_of self }
-        ensures bound { result < 16 }
+        ensures bound { result < 19 }
     {
         let span = self.span as u8;
         match self.limit {
             Limit::Number(_) | Limit::All => 1 + span,
             Limit::Within(_) if span == 0 => 0,
             Limit::Within(_) => 8 + span,
+            Limit::Begin(_) if span == 4 => 16,
+            Limit::Begin(_) => 17,
+            Limit::Ago(_) => 18,
         }
     }
 }

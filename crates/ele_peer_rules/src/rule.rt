@@ -1,6 +1,6 @@
 //! Rules of other tools. A contract sees a rule as its tool and its parts.
 ghost use Rattle.std.specs.Prelude.{◌≡◌, ◌<◌, ◌^◌, ◌==◌, length, IfOk, if◌then◌else◌};
-ghost use Rattle.ele_peer_rules.specs.Kept.{after_others, after_rank, kept_by, of_newest, of_now, rank_of, since_of};
+ghost use Rattle.ele_peer_rules.specs.Kept.{IsKept, after_others, after_rank, kept_by, of_newest, of_now, rank_of, since_of};
 ghost use Rattle.ele_lists.specs.Ends.{last_of};
 ghost use Rattle.ele_peer_rules.specs.Marks.{after_part};
 
@@ -10,13 +10,14 @@ use crate::marking::mark_part;
 use crate::part::{Part, Tool};
 use crate::reason::Reason;
 use crate::row::Row;
+use crate::schedule::scheduled;
 use crate::span::Span;
 use arrayvec::ArrayVec;
 use ele_moment::{Moment, NoMemory};
 use std::alloc::Global;
 
 /// So many parts can a rule have: one of each rank.
-pub(crate) const MOST_PARTS: usize = 16;
+pub(crate) const MOST_PARTS: usize = 19;
 
 /// A rule of another tool, by which it keeps some of a list of backups.
 #[derive(Drop)]
@@ -30,6 +31,23 @@ impl PeerRule {
     /// time, the newest last. `NoMemory` if memory is refused.
     /// Cost: one pass over the rows for each part.
     pub fn kept(
+        &self,
+        alloc: Global,
+        now: Moment,
+        rows: &[Row],
+    ) -> Result<Vec<Option<Reason>>, NoMemory>
+        ensures { IfOk result (λ marks. IsKept self.now.tool self.now.parts.items now rows.now marks.items) }
+    {
+        match self.tool {
+            Tool::Restic | Tool::OldRestic | Tool::Borg | Tool::Snapper | Tool::Sanoid => {
+                self.marked(alloc, now, rows)
+            }
+            Tool::Btrbk => scheduled(alloc, self.parts.as_slice(), now, rows),
+        }
+    }
+
+    // What keeps each row by one part after another.
+    fn marked(
         &self,
         alloc: Global,
         now: Moment,
@@ -54,7 +72,7 @@ fn mark_others(tool: Tool, since: &Since, rows: &[Row], marks: &mut [Option<Reas
     ensures { marks.new ≡ after_others tool since.now rows.now marks.old }
 {
     match tool {
-        Tool::Restic | Tool::OldRestic | Tool::Borg | Tool::Snapper => {}
+        Tool::Restic | Tool::OldRestic | Tool::Borg | Tool::Snapper | Tool::Btrbk => {}
         Tool::Sanoid => {
             let others = Part {
                 span: Span::Each,
@@ -101,7 +119,7 @@ fn since_of(tool: Tool, now: Moment, rows: &[Row]) -> Since
 {
     match tool {
         Tool::Restic | Tool::OldRestic => of_newest(rows),
-        Tool::Borg | Tool::Snapper | Tool::Sanoid => of_now(now),
+        Tool::Borg | Tool::Snapper | Tool::Sanoid | Tool::Btrbk => of_now(now),
     }
 }
 
