@@ -1,7 +1,6 @@
-"""The rules of restic, borg, snapper and sanoid, as crates/ele_peer_rules/specs say them, and random lists and rules of each."""
+"""The rules of restic and borg, as crates/ele_peer_rules/specs say them, and random lists and rules of both."""
 
 import random
-import re
 from collections.abc import Sequence
 from datetime import datetime, timedelta, timezone
 from typing import NamedTuple
@@ -15,20 +14,12 @@ STEPS = [0, 1, 59, 60, 600, 1800, 3600, 5400, 7200, 21600, 43200, 82800, 86400, 
 SPANS = ["last", "secondly", "minutely", "hourly", "daily", "weekly", "monthly", "yearly"]
 RESTIC = ["last", "hourly", "daily", "weekly", "monthly", "yearly"]
 BORG = SPANS[1:]
-SNAPPER = ["hourly", "daily", "weekly", "monthly", "yearly"]
-# sanoid's kinds, and the seconds of their periods. `frequently` is each quarter of an hour.
-PERIODS = {"minutely": 900, "hourly": 3600, "daily": 86400, "weekly": 604800, "monthly": 2678400, "yearly": 31557600}
-# btrbk's letters, and its days of the week.
-UNITS = {"h": "hourly", "d": "daily", "w": "weekly", "m": "monthly", "y": "yearly"}
-WEEKDAYS = ["sunday", "monday", "tuesday", "wednesday", "thursday", "friday", "saturday"]
-EPOCH = datetime(1970, 1, 1, tzinfo=timezone.utc)
 BORG_UNITS = {"H": 3600, "d": 86400, "w": 604800, "m": 2678400, "y": 31536000}
 
 
 class Row(NamedTuple):
     moment: int
     offset: int
-    label: str = ""
 
     @property
     def clock(self) -> datetime:
@@ -36,14 +27,13 @@ class Row(NamedTuple):
 
 
 class Part(NamedTuple):
-    """Keeps a row of each span: so many (-1 for all), or those within a length of time. A name is that of the tool's own option."""
+    """Keeps the newest row of each span: so many (-1 for all), or those within a length of time."""
 
     span: str
     number: int | None
     months: int = 0
     seconds: int = 0
     text: str = ""
-    name: str = ""
 
     @property
     def rank(self) -> int:
@@ -52,8 +42,6 @@ class Part(NamedTuple):
 
     @property
     def option(self) -> str:
-        if self.name:
-            return self.name
         if self.number is not None:
             return f"keep-{self.span}"
         return "keep-within" if self.span == "last" else f"keep-within-{self.span}"
@@ -85,119 +73,8 @@ def back(newest: Row, part: Part) -> float:
     return (first + timedelta(days=clock.day - 1)).timestamp() - part.seconds
 
 
-def snapper_kept(parts: Sequence[Part], now: int, rows: Sequence[Row]) -> list[Reason | None]:
-    """Returns what keeps each row in a timeline of snapper: its age, or a limit that counts the first rows of spans from the newest on."""
-    young = next((it.seconds for it in parts if it.number is None), 0)
-    marks: list[Reason | None] = [None] * len(rows)
-    for at, row in enumerate(rows):
-        if row.moment > now - young:
-            marks[at] = Reason("last", "within", len(rows) - at)
-    for part in sorted((it for it in parts if it.number is not None), key=lambda it: SPANS.index(it.span)):
-        firsts = {span_of(part.span, row.clock): at for at, row in reversed(list(enumerate(rows)))}
-        for number, at in enumerate(sorted(firsts.values(), reverse=True)[: part.number], 1):
-            marks[at] = marks[at] or Reason(part.span, "count", number)
-    return marks
-
-
-class Schedule(NamedTuple):
-    """A rule of btrbk: until how many spans ago it keeps the first row of each (-1 for all), and when days and weeks begin."""
-
-    counts: dict[str, int]
-    least: str = ""
-    weekday: int = 0
-    hour: int = 0
-
-    @property
-    def words(self) -> str:
-        items = [f"{'*' if number < 0 else number}{letter}" for letter, number in self.counts.items()]
-        words = [f"snapshot_preserve={items[0]}", *items[1:]] if items else []
-        words += [f"snapshot_preserve_min={self.least}"] * bool(self.least)
-        words += [f"preserve_day_of_week={WEEKDAYS[self.weekday]}"] * bool(self.weekday)
-        return ",".join([*words, *[f"preserve_hour_of_day={self.hour}"] * bool(self.hour)])
-
-    def spans(self, row: Row) -> dict[str, int]:
-        """Returns the number of each span in which a row lies: a day begins at the hour, and a month at its first day of the week."""
-        clock = row.clock
-        hour = int((clock.replace(tzinfo=timezone.utc) - EPOCH).total_seconds()) // 3600
-        day = (hour + 24 - self.hour) // 24
-        into = (day + 10 - self.weekday) % 7
-        month = 12 * (clock.year - 1970) + clock.month - 1 - (clock.day <= into)
-        return {"h": hour, "d": day, "w": (day + 10 - self.weekday) // 7, "m": month, "y": month // 12}
-
-    def ago(self, now: Row, row: Row) -> dict[str, int]:
-        """Returns how many spans ago a row lies in each. Months and years are counted from those of the calendar."""
-        clock = now.clock
-        month = 12 * (clock.year - 1970) + clock.month - 1
-        there = {**self.spans(now), "m": month, "y": month // 12}
-        return {letter: there[letter] - number for letter, number in self.spans(row).items()}
-
-
-def btrbk_kept(rule: Schedule, now: int, rows: Sequence[Row]) -> list[Reason | None]:
-    """Returns what keeps each row in btrbk, at a moment that the clock of the newest row shows."""
-    at = rows[-1]._replace(moment=now)
-    begun: dict[str, int] = {}
-    marks: list[Reason | None] = []
-    for place, row in enumerate(rows):
-        spans, ago = rule.spans(row), rule.ago(at, row)
-        mark = least_of(rule.least, ago, place + 1 == len(rows))
-        for letter, span in UNITS.items():
-            if begun.get(letter) == spans[letter]:
-                break
-            begun[letter] = spans[letter]
-            if rule.counts.get(letter, 0) < 0 or 0 < rule.counts.get(letter, 0) >= ago[letter]:
-                mark = Reason(span, "count", ago[letter])
-        marks.append(mark)
-    return marks
-
-
-def least_of(least: str, ago: dict[str, int], newest: bool) -> Reason | None:
-    """Returns why `snapshot_preserve_min` keeps a row, if it does."""
-    if least == "all":
-        return Reason("last", "within", ago["h"])
-    if least == "latest" and newest:
-        return Reason("last", "count", 1)
-    if least in ("", "latest") or ago[least[-1]] > int(least[:-1]):
-        return None
-    return Reason(UNITS[least[-1]], "within", ago[least[-1]])
-
-
-def btrbk_rule(chance: random.Random) -> Schedule:
-    letters = chance.sample(list(UNITS), chance.randrange(0, 5))
-    counts = {it: chance.choice([-1, 0, 1, 2, 3, 5, 14]) for it in letters}
-    least = chance.choice(["", "all", "latest", *[f"{chance.randrange(1, 9)}{chance.choice(list(UNITS))}"] * 4])
-    return Schedule(counts, least or ("" if counts else "latest"), chance.choice([0, 0, 1, 3, 6]), chance.choice([0, 0, 1, 5, 23]))
-
-
-def sanoid_kind(label: str) -> str | None:
-    """Returns the span of the kind that sanoid reads in a snapshot's name."""
-    found = re.fullmatch(r"(?:.*@)?autosnap.*_(\w*ly)", label)
-    kind = found and {"frequently": "minutely"}.get(found[1], found[1])
-    return kind if kind in PERIODS else None
-
-
-def sanoid_kept(parts: Sequence[Part], now: int, rows: Sequence[Row]) -> list[Reason | None]:
-    """Returns what keeps each row in sanoid, which goes through the snapshots of a kind from the oldest on."""
-    wanted = {it.span: it.number or 0 for it in parts}
-    others = [at for at, row in enumerate(rows) if sanoid_kind(row.label) is None]
-    marks: list[Reason | None] = [None] * len(rows)
-    for number, at in enumerate(reversed(others), 1):
-        marks[at] = Reason("last", "other", number)
-    for kind, most in wanted.items():
-        places = [at for at, row in enumerate(rows) if sanoid_kind(row.label) == kind]
-        for number, at in zip(range(len(places), 0, -1), places):
-            if number <= most:
-                marks[at] = Reason(kind, "count", number)
-            elif rows[at].moment >= now - most * PERIODS[kind]:
-                marks[at] = Reason(kind, "within", number)
-    return marks
-
-
 def kept(tool: str, parts: Sequence[Part], now: int, rows: Sequence[Row]) -> list[Reason | None]:
     """Returns what keeps each row, as `specs/` say. Rows are in order of time."""
-    if tool == "snapper":
-        return snapper_kept(parts, now, rows)
-    if tool == "sanoid":
-        return sanoid_kept(parts, now, rows)
     marks: list[Reason | None] = [None] * len(rows)
     for part in sorted(parts, key=lambda it: it.rank):
         before = list(marks)
@@ -253,29 +130,3 @@ def restic_rule(chance: random.Random) -> list[Part]:
         months, seconds, text = restic_length(chance)
         parts.append(Part(span, None, months, seconds, text))
     return parts
-
-
-def snapper_rule(chance: random.Random) -> list[Part]:
-    counts = [0, 1, 2, 3, 5, 10]
-    parts = [Part(it, chance.choice(counts), name=f"TIMELINE_LIMIT_{it.upper()}") for it in chance.sample(SNAPPER, chance.randrange(1, 5))]
-    if chance.random() < 0.5:
-        seconds = chance.choice([0, 1, 60, 1800, 3600, 86400, 2678400])
-        parts.append(Part("last", None, 0, seconds, str(seconds), "TIMELINE_MIN_AGE"))
-    chance.shuffle(parts)
-    return parts
-
-
-def sanoid_rule(chance: random.Random) -> list[Part]:
-    names = {"minutely": "frequently"}
-    spans = chance.sample(list(PERIODS), chance.randrange(1, 6))
-    return [Part(it, chance.choice([0, 1, 2, 3, 7, 30]), name=names.get(it, it)) for it in spans]
-
-
-def with_names(chance: random.Random, rows: Sequence[Row]) -> list[Row]:
-    """Returns the rows with names as sanoid gives them, and some of others."""
-    kinds = chance.sample(["frequently", "hourly", "daily", "weekly", "monthly", "yearly"], chance.randrange(1, 4))
-    named = []
-    for row in rows:
-        name = f"autosnap_{row.clock:%Y-%m-%d_%H:%M:%S}_{chance.choice(kinds)}"
-        named.append(row._replace(label=chance.choice([name] * 8 + [f"pool/data@{name}", "before-upgrade", "manual_daily", f"{name}x"])))
-    return named

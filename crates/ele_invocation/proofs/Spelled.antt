@@ -1,6 +1,6 @@
 -- Words one after another, and what each spells.
-use Rattle.std.proofs.Common.{◌≡◌, ◌<◌, ◌∙◌, Bor, option_map, unwrap_or, ℕ, zero, suc, List, [], ◌∷◌, length, get_or, map, Option, Result, Ok, Err, Some, None, is_some, MatchBool, is_ok, IfNone, Bool, ◌||◌, refl, ap, sym, true, arith}
-use Rattle.std.specs.List.{AllZip, list_any}
+use Rattle.std.proofs.Common.{◌≡◌, ◌<◌, ◌∙◌, Bor, option_map, unwrap_or, ℕ, zero, suc, List, [], ◌∷◌, length, get_or, map, Option, Result, Ok, Err, Some, None, is_some, MatchBool, is_ok, IfNone, ap, sym, true, arith}
+use Rattle.std.specs.List.{AllZip}
 use Rattle.std.proofs.lemmas.Bool.{false≢true}
 use Rattle.std.proofs.lemmas.Option.{same_Some}
 use Rattle.ele_outlook.specs.declared.options.Form.{Form}
@@ -13,11 +13,6 @@ use Rattle.ele_invocation.specs.Forecasts.{IsForeign, IsOverTime, IsPlain}
 use Rattle.ele_invocation.specs.Unread.{NoneAsks}
 use Rattle.ele_invocation.specs.declared.reading.Unread.{Unread}
 use Rattle.ele_invocation.specs.declared.reading.Unread.TheVariants.{Because, BadRule, NoMemory}
-
--- a test of what elements give
-pub any_map : {A B : Type 0} (p : B → Bool) (f : A → B) (xs : List A) → list_any p (map f xs) ≡ list_any (λ x. p (f x)) xs
-any_map p f [] = refl
-any_map p f (x ∷ xs) = ap (λ (b : Bool). p (f x) || b) (any_map p f xs)
 
 -- a word that spells nothing
 pub none_zips : {A B C : Type 0} (f : C → A) (R : A → B → Type 0) (xs : List C) (ys : List B) (i : ℕ) (d : C) → i < length xs → ((y : B) → ¬ R (f (get_or xs i d)) y) → ¬ AllZip R (map f xs) ys

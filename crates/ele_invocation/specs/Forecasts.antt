@@ -1,7 +1,7 @@
 -- Which forecast the matches of `forecast` ask for.
-use Rattle.std.specs.Prelude.{◌≡◌, ◌+◌, ◌<◌, ◌≤◌, ◌==◌, ◌&&◌, ◌||◌, if◌then◌else◌, MatchOption, ℕ, Bool, true, false, not, nat_eq, List, [], ◌∷◌, Ok, Err, Option, Some, None, length, unwrap_or, codes}
+use Rattle.std.specs.Prelude.{◌≡◌, ◌+◌, ◌<◌, ◌≤◌, ◌==◌, ◌&&◌, ◌||◌, if◌then◌else◌, MatchOption, ℕ, Bool, true, false, List, [], Ok, Err, Option, Some, None, length, unwrap_or, codes}
 use Rattle.std.specs.Int.{from_bool}
-use Rattle.std.specs.List.{All, AllZip, Any, list_any, starts_with}
+use Rattle.std.specs.List.{All, AllZip, Any}
 use Rattle.ele_outlook.specs.declared.options.Form.{Form}
 use Rattle.ele_outlook.specs.declared.options.Form.TheVariants.{Table, Drawing, Due, Kept, Json, Csv, Every}
 use Rattle.ele_outlook.specs.declared.options.ForecastOptions.{ForecastOptions}
@@ -72,16 +72,6 @@ takes_rules Due = false
 takes_rules Kept = false
 takes_rules (Every step) = false
 
--- the words of policies; beside rules alone it is `all`
-abbrev pub policies_beside : List Text → Option (List Text) → Option (List Text)
-policies_beside rules (Some words) = Some words
-policies_beside [] None = None
-policies_beside (rule ∷ rules) None = Some (codes "all" ∷ [])
-
--- a rule of sanoid, which tells the kind of a version by its label
-abbrev pub needs_labels : Text → Bool
-needs_labels word = starts_with nat_eq word (codes "sanoid:")
-
 -- the word means the rule
 pub record AsksRule (word : Text) (asked : AskedRule) : Type 0 where
   pub word_is : asked.word.items ≡ word
@@ -100,7 +90,7 @@ IsNamed words false = All IsPlain words
 -- the forecast under the policies and rules that the words mean, in their order, at the moments that the others spell
 pub record AsksForecast (rows : List Row) (ask : ForecastOptions) : Type 0 where
   pub words : List Text
-  pub given : policies_beside (values_of (codes "rule") rows) (all_of (codes "policy") rows) ≡ Some words
+  pub given : all_of (codes "policy") rows ≡ Some words
   pub few : length words ≤ 16
   pub policies : AllZip MeansPolicy words ask.policies.items
   pub named : IsNamed words ask.named
@@ -112,5 +102,4 @@ pub record AsksForecast (rows : List Row) (ask : ForecastOptions) : Type 0 where
   pub title : ask.title.items ≡ unwrap_or (first_of (codes "title") rows) []
   pub form : IsForm rows ask.form
   pub ruled : (takes_rules ask.form || (length (values_of (codes "rule") rows) == 0)) ≡ true
-  pub labelled : (is_on (codes "labels") rows || not (list_any needs_labels (values_of (codes "rule") rows))) ≡ true
   pub suited : suits ask.form (length words) (length (values_of (codes "at") rows)) ≡ true

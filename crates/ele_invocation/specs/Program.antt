@@ -20,6 +20,9 @@ default_rule name value = record (option_rule name) { defaults = value ∷ [] }
 abbrev pub repeated_rule : Text → Rule
 repeated_rule name = record (option_rule name) { action = Some Append }
 
+abbrev pub required_rule : Text → Rule
+required_rule name = record (repeated_rule name) { required = true }
+
 abbrev pub command_shape : Text → List Rule → Shape
 command_shape name rules = record (new_app name).top { rules = rules }
 
@@ -33,7 +36,7 @@ storm_shape = command_shape (codes "storm") (default_rule (codes "writers") (cod
     ∷ default_rule (codes "historians") (codes "1") ∷ default_rule (codes "rounds") (codes "10") ∷ [])
 
 abbrev pub forecast_shape : Shape
-forecast_shape = command_shape (codes "forecast") (repeated_rule (codes "policy") ∷ repeated_rule (codes "at")
+forecast_shape = command_shape (codes "forecast") (required_rule (codes "policy") ∷ repeated_rule (codes "at")
     ∷ option_rule (codes "every") ∷ flag_rule (codes "labels") ∷ flag_rule (codes "sizes") ∷ option_rule (codes "list")
     ∷ flag_rule (codes "svg") ∷ option_rule (codes "title") ∷ flag_rule (codes "json") ∷ flag_rule (codes "csv")
     ∷ repeated_rule (codes "rule") ∷ option_rule (codes "offset") ∷ [])

@@ -22,15 +22,13 @@ landmarks:AGE/WIDTH,.. ('elephant help policies'). AGE, WIDTH and LENGTH are
 seconds, or a number with s, m, h, d, w or y, as 7d.
 
 A rule is a tool, a colon and options of that tool, as in
-restic:keep-last=3,keep-daily=7 or borg:keep-within=30d,keep-weekly=4. The tool
-is restic, restic-0.15, borg, snapper or sanoid. It keeps by the days, weeks and
-months of the clock of each time.
+restic:keep-last=3,keep-daily=7 or borg:keep-within=30d,keep-weekly=4. It keeps
+by the days, weeks and months of the clock of each time.
 
 Example:
   printf '2026-01-01\\n2026-01-02\\n' | elephant forecast --policy safe:7d";
 
-const POLICY: &str = "Forecast under POL; give up to 16 to compare them. With\n\
-    --rule alone it is `all`";
+const POLICY: &str = "Forecast under POL; give up to 16 to compare them";
 
 const AT: &str = "Also print which versions are kept at the moment M; can\n\
     be given several times";
@@ -65,7 +63,9 @@ const OFFSET: &str = "Read times without an offset by a clock of this one, as\n\
 pub(crate) fn forecast<'a>(alloc: Global) -> Result<Command<'a>, AllocError>
     ensures { IfOk result (HasShape forecast_shape) }
 {
-    let policy = option(alloc, "policy", "POL", POLICY).action(ArgAction::Append);
+    let policy = option(alloc, "policy", "POL", POLICY)
+        .action(ArgAction::Append)
+        .required(true);
     let at = option(alloc, "at", "M", AT).action(ArgAction::Append);
     let rule = option(alloc, "rule", "RULE", RULE).action(ArgAction::Append);
     command_of(alloc, "forecast", FORECAST, MORE)

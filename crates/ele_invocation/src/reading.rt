@@ -39,7 +39,7 @@ ghost use Rattle.ele_invocation.specs.declared.reading.Unread.TheVariants as unr
 ghost use Rattle.clap.specs.Words.{first_of, found_of, rows_of};
 
 use crate::matches::{is_on, value_of, values_of};
-use crate::rules::{check_labels, clock_in, policy_words, rules_in};
+use crate::rules::{clock_in, rules_in};
 use clap::ArgMatches;
 use ele_moment::Moment;
 use ele_outlook::{ForecastOptions, Form, MOST_POLICIES};
@@ -63,9 +63,6 @@ const MANY_POLICIES: &str = "error: --policy is given at most 16 times\n\n\
     For more information, try 'elephant forecast --help'.\n";
 
 const TWO_FORMS: &str = "error: --every, --list, --svg, --json and --csv exclude each other\n\n\
-    For more information, try 'elephant forecast --help'.\n";
-
-const NO_POLICY: &str = "error: --policy or --rule is missing\n\n\
     For more information, try 'elephant forecast --help'.\n";
 
 const BAD_FORM: &str = "error: --rule is for the table, --json and --csv\n\n\
@@ -262,15 +259,13 @@ pub(crate) fn read_forecast(alloc: Global, forecast: &ArgMatches) -> Result<Fore
     ensures unread { IfErr result (NoneAsks (AsksForecast (rows_of (found_of forecast.now)))) }
 {
     let form = form_in(forecast)?;
-    let names = values_of(forecast, "rule").unwrap_or(&[]);
-    let alone = ["all"];
-    let Some(words) = policy_words(names, values_of(forecast, "policy"), &alone) else {
-        return Err(Unread::Because(NO_POLICY));
+    let Some(words) = values_of(forecast, "policy") else {
+        return Err(Unread::Because(BAD_POLICY));
     };
     let times = values_of(forecast, "at").unwrap_or(&[]);
+    let names = values_of(forecast, "rule").unwrap_or(&[]);
     check_counts(form, words.len(), times.len())?;
     check_rules(form, names.len())?;
-    check_labels(is_on(forecast, "labels"), names)?;
     let title = title_in(alloc, forecast)?;
     let policies = match policies_in(alloc, words) {
         Ok(policies) => policies,

@@ -5,7 +5,7 @@ use Rattle.std.proofs.lemmas.Bool.Decides.{nat_tests}
 use Rattle.std.proofs.lemmas.List.Sums.{position_or_len_is}
 use Rattle.std.specs.List.{after_first, before_first, list_any, position_or_len}
 use Rattle.memchr.specs.Find.{IsFirstByte, is_byte}
-use Rattle.ele_peer_rules.specs.Marked.{is_mark}
+use Rattle.ele_peer_rules.specs.Words.{is_mark}
 
 mark_found : (mark : ℕ) (xs : List ℕ) (at : ℕ) → IsFirstByte (is_byte mark) xs (Some at) → position_or_len (is_mark mark) xs ≡ at
 mark_found mark xs at h =

@@ -76,7 +76,7 @@ apart_push before (k ∷ kept) part apart new = (apart.0, apart_push (before ++ 
 pub same_ok : (a b : Part) → ◌≡◌ {A = Result Part Wrong} (Ok a) (Ok b) → a ≡ b
 same_ok a b e = cc
 
-pub room : (n : ℕ) (full : Bool) → full ≡ (n == 19) → full ≡ false → n ≤ 19 → n < 19
+pub room : (n : ℕ) (full : Bool) → full ≡ (n == 16) → full ≡ false → n ≤ 16 → n < 16
 room n full is other le = grind (arith, nat_tests)
 
 pub no_part : (wrong : Wrong) (part : Part) → ◌≡◌ {A = Result Part Wrong} (Err wrong) (Ok part) → ⊥

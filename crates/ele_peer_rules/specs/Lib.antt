@@ -3,9 +3,5 @@ pub mod Within
 pub mod Spans
 pub mod Marks
 pub mod Kept
-pub mod Schedule
-pub mod Marked
-pub mod Items
 pub mod Words
-pub mod Kinds
 pub mod Faults

@@ -5,27 +5,24 @@ use Rattle.std.specs.List.{AllZip, after_first, before_first, list_any, slice_sp
 use Rattle.std.specs.Str.{bytes_eq}
 use Rattle.ele_moment.specs.Number.{SpellsNumber}
 use Rattle.ele_peer_rules.specs.declared.limit.Limit.{Limit}
-use Rattle.ele_peer_rules.specs.declared.limit.Limit.TheVariants.{Number, All, Within, Begin, Ago}
+use Rattle.ele_peer_rules.specs.declared.limit.Limit.TheVariants.{Number, All, Within}
 use Rattle.ele_peer_rules.specs.declared.limit.Reach.{Reach}
 use Rattle.ele_peer_rules.specs.declared.part.Part.{Part}
 use Rattle.ele_peer_rules.specs.declared.part.Tool.{Tool}
-use Rattle.ele_peer_rules.specs.declared.part.Tool.TheVariants.{Restic, OldRestic, Borg, Snapper, Sanoid, Btrbk}
+use Rattle.ele_peer_rules.specs.declared.part.Tool.TheVariants.{Restic, OldRestic, Borg}
 use Rattle.ele_peer_rules.specs.declared.names.Slot.{Slot}
 use Rattle.ele_peer_rules.specs.declared.span.Span.TheVariants.{Each, Second, Minute, Hour, Day, Week, Month, Year}
-use Rattle.ele_peer_rules.specs.Items.{SpellsItem}
 use Rattle.ele_peer_rules.specs.Kept.{rank_of}
-use Rattle.ele_peer_rules.specs.Marked.{is_mark}
+
+-- a byte is the mark
+abbrev pub is_mark : ℕ → ℕ → Bool
+is_mark mark byte = byte == mark
 
 abbrev pub tool_of : List ℕ → Option Tool
 tool_of name =
-    if bytes_eq name (codes "restic") then Some Restic
-    else (if bytes_eq name (codes "restic-0.15") then Some OldRestic
-    else (if bytes_eq name (codes "borg") then Some Borg
-    else (if bytes_eq name (codes "snapper") then Some Snapper
-    else (if bytes_eq name (codes "sanoid") then Some Sanoid
-    else (if bytes_eq name (codes "btrbk") then Some Btrbk else None)))))
+    if bytes_eq name (codes "restic") then Some Restic else (if bytes_eq name (codes "restic-0.15") then Some OldRestic else (if bytes_eq name (codes "borg") then Some Borg else None))
 
--- options of restic and borg
+-- options of both tools
 abbrev pub shared_slot : List ℕ → Option Slot
 shared_slot name =
     if bytes_eq name (codes "keep-within") then Some (record { span = Each; within = true })
@@ -51,59 +48,23 @@ borg_slot name =
     else (if bytes_eq name (codes "keep-secondly") then Some (record { span = Second; within = false })
     else (if bytes_eq name (codes "keep-minutely") then Some (record { span = Minute; within = false }) else None))
 
-abbrev pub snapper_slot : List ℕ → Option Slot
-snapper_slot name =
-    if bytes_eq name (codes "TIMELINE_MIN_AGE") then Some (record { span = Each; within = true })
-    else (if bytes_eq name (codes "TIMELINE_LIMIT_HOURLY") then Some (record { span = Hour; within = false })
-    else (if bytes_eq name (codes "TIMELINE_LIMIT_DAILY") then Some (record { span = Day; within = false })
-    else (if bytes_eq name (codes "TIMELINE_LIMIT_WEEKLY") then Some (record { span = Week; within = false })
-    else (if bytes_eq name (codes "TIMELINE_LIMIT_MONTHLY") then Some (record { span = Month; within = false })
-    else (if bytes_eq name (codes "TIMELINE_LIMIT_YEARLY") then Some (record { span = Year; within = false }) else None)))))
-
-abbrev pub sanoid_slot : List ℕ → Option Slot
-sanoid_slot name =
-    if bytes_eq name (codes "frequently") then Some (record { span = Minute; within = false })
-    else (if bytes_eq name (codes "hourly") then Some (record { span = Hour; within = false })
-    else (if bytes_eq name (codes "daily") then Some (record { span = Day; within = false })
-    else (if bytes_eq name (codes "weekly") then Some (record { span = Week; within = false })
-    else (if bytes_eq name (codes "monthly") then Some (record { span = Month; within = false })
-    else (if bytes_eq name (codes "yearly") then Some (record { span = Year; within = false }) else None)))))
+abbrev pub own_slot : Tool → List ℕ → Option Slot
+own_slot Restic name = restic_slot name
+own_slot OldRestic name = restic_slot name
+own_slot Borg name = borg_slot name
 
 -- the spans that an option of the tool is about, and whether its value is a length of time
 abbrev pub slot_of : Tool → List ℕ → Option Slot
-slot_of Restic name = option_or (shared_slot name) (restic_slot name)
-slot_of OldRestic name = option_or (shared_slot name) (restic_slot name)
-slot_of Borg name = option_or (shared_slot name) (borg_slot name)
-slot_of Snapper name = snapper_slot name
-slot_of Sanoid name = sanoid_slot name
-slot_of Btrbk name = None
+slot_of tool name = option_or (shared_slot name) (own_slot tool name)
 
 -- the value for all rows
 abbrev pub is_all : List ℕ → Bool
 is_all text = bytes_eq text (codes "unlimited") || bytes_eq text (codes "-1")
 
--- which snapper and sanoid haven't
-abbrev pub means_all : Tool → List ℕ → Bool
-means_all Restic text = is_all text
-means_all OldRestic text = is_all text
-means_all Borg text = is_all text
-means_all Snapper text = false
-means_all Sanoid text = false
-means_all Btrbk text = false
-
 -- a number from 1 on
 pub record SpellsSome (text : List ℕ) (n : ℕ) : Type 0 where
   pub number : SpellsNumber text n
   pub some : 0 < n
-
--- how many rows are kept, which snapper and sanoid may set to 0
-abbrev pub SpellsRows : Tool → List ℕ → ℕ → Type 0
-SpellsRows Restic text n = SpellsSome text n
-SpellsRows OldRestic text n = SpellsSome text n
-SpellsRows Borg text n = SpellsSome text n
-SpellsRows Snapper text n = SpellsNumber text n
-SpellsRows Sanoid text n = SpellsNumber text n
-SpellsRows Btrbk text n = SpellsNumber text n
 
 -- the number before a letter, and the rest behind it, or 0 where the letter isn't there
 abbrev pub SpellsCount : Bool → ℕ → List ℕ → ℕ → List ℕ → Type 0
@@ -150,48 +111,27 @@ pub record SpellsBorg (word : List ℕ) (reach : Reach) : Type 0 where
   pub worth : reach.seconds ≡ count * unit
   pub fits : reach.seconds < 2 ^ 64
 
--- snapper's length of time: a number of seconds
-pub record SpellsSeconds (word : List ℕ) (reach : Reach) : Type 0 where
-  pub months : reach.months ≡ 0
-  pub seconds : SpellsNumber word reach.seconds
-
 abbrev pub SpellsReach : Tool → List ℕ → Reach → Type 0
 SpellsReach Restic word reach = SpellsRestic word reach
 SpellsReach OldRestic word reach = SpellsRestic word reach
 SpellsReach Borg word reach = SpellsBorg word reach
-SpellsReach Snapper word reach = SpellsSeconds word reach
-SpellsReach Sanoid word reach = ⊥
-SpellsReach Btrbk word reach = ⊥
 
 -- the value of an option: a length of time, or how many rows
 abbrev pub SpellsLimit : Tool → Bool → List ℕ → Limit → Type 0
 SpellsLimit tool true text (Number n) = ⊥
 SpellsLimit tool true text All = ⊥
 SpellsLimit tool true text (Within reach) = SpellsReach tool text reach
-SpellsLimit tool true text (Begin n) = ⊥
-SpellsLimit tool true text (Ago n) = ⊥
-SpellsLimit tool false text (Number n) = (means_all tool text ≡ false) × SpellsRows tool text n
-SpellsLimit tool false text All = means_all tool text ≡ true
+SpellsLimit tool false text (Number n) = (is_all text ≡ false) × SpellsSome text n
+SpellsLimit tool false text All = is_all text ≡ true
 SpellsLimit tool false text (Within reach) = ⊥
-SpellsLimit tool false text (Begin n) = ⊥
-SpellsLimit tool false text (Ago n) = ⊥
 
 -- an option of the tool, an equals sign (61) and its value
-pub record SpellsOption (tool : Tool) (word : List ℕ) (part : Part) : Type 0 where
+pub record SpellsPart (tool : Tool) (word : List ℕ) (part : Part) : Type 0 where
   pub slot : Slot
   pub equals : list_any (is_mark 61) word ≡ true
   pub slot_is : slot_of tool (before_first (is_mark 61) word) ≡ Some slot
   pub span : part.span ≡ slot.span
   pub limit : SpellsLimit tool slot.within (after_first (is_mark 61) word) part.limit
-
--- an option of btrbk is in words of its own
-abbrev pub SpellsPart : Tool → List ℕ → Part → Type 0
-SpellsPart Restic word part = SpellsOption Restic word part
-SpellsPart OldRestic word part = SpellsOption OldRestic word part
-SpellsPart Borg word part = SpellsOption Borg word part
-SpellsPart Snapper word part = SpellsOption Snapper word part
-SpellsPart Sanoid word part = SpellsOption Sanoid word part
-SpellsPart Btrbk word part = SpellsItem word part
 
 -- a part of the rank is among them
 abbrev pub has_rank : ℕ → List Part → Bool
@@ -206,7 +146,7 @@ AreApart before (part ∷ parts) = (has_rank (rank_of part) before ≡ false) ×
 pub record SpellsParts (tool : Tool) (text : List ℕ) (parts : List Part) : Type 0 where
   pub each : AllZip (SpellsPart tool) (slice_split (is_mark 44) text) parts
   pub once : AreApart [] parts
-  pub few : length parts ≤ 19
+  pub few : length parts ≤ 16
 
 -- a tool's name, a colon (58), and options
 pub record MeansRule (word : List ℕ) (tool : Tool) (parts : List Part) : Type 0 where

@@ -40,13 +40,6 @@ impl Month {
         self.number
     }
 
-    /// Returns the day on which the month begins, counted from 1970-01-01.
-    pub(crate) fn first_day(self) -> u32
-        ensures { result ≡ month_start self }
-    {
-        month_start(self.number)
-    }
-
     /// The month of a day, which is counted from 1970-01-01 and isn't past the year 9999.
     pub(crate) fn of_day(number: u32) -> Month
         requires { number ≤ 2932896 }

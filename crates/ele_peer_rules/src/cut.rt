@@ -1,7 +1,7 @@
 //! A word around a mark. A contract sees a word as its bytes.
 ghost use Rattle.std.specs.Prelude.{◌≡◌, None, IfSome, true, false};
 ghost use Rattle.std.specs.List.{after_first, before_first, list_any};
-ghost use Rattle.ele_peer_rules.specs.Marked.{is_mark};
+ghost use Rattle.ele_peer_rules.specs.Words.{is_mark};
 
 use memchr::memchr;
 

@@ -4,8 +4,6 @@
 
 mod calendar;
 mod cut;
-mod items;
-mod kind;
 mod length;
 mod limit;
 mod marking;
@@ -15,11 +13,9 @@ mod reading;
 mod reason;
 mod row;
 mod rule;
-mod schedule;
 mod span;
 
 pub use calendar::Month;
-pub use kind::kind_of;
 pub use limit::{Limit, Reach};
 pub use part::{Part, Tool};
 pub use reading::{RuleFault, Wrong, read_rule};

@@ -1,11 +1,10 @@
 //! How many rows of its span a part of a rule keeps. A contract sees a limit as plain data.
-ghost use Rattle.std.specs.Prelude.{◌≡◌, ◌≤◌, ◌+◌, ◌*◌, nat_le};
+ghost use Rattle.std.specs.Prelude.{◌≡◌, ◌≤◌};
 ghost use Rattle.ele_peer_rules.specs.Within.{is_within};
-ghost use Rattle.ele_peer_rules.specs.Marks.{is_allowed, is_young, period};
+ghost use Rattle.ele_peer_rules.specs.Marks.{is_allowed};
 
 use crate::calendar::Month;
 use crate::row::Row;
-use crate::span::Span;
 use ele_moment::Moment;
 
 /// A length of time: calendar months, and seconds.
@@ -15,18 +14,13 @@ pub struct Reach {
     pub seconds: u64,
 }
 
-/// How many rows are kept: the newest so many, all, or those within a length of time. btrbk's count spans before now, and two
-/// of its options say when its spans begin.
+/// How many rows are kept: the newest so many, all, or those within a length of time.
 #[derive(Clone, Copy, Default)]
 pub enum Limit {
     Number(u64),
     #[default]
     All,
     Within(Reach),
-    /// At which hour days begin, or on which day weeks do, from 0 for Sunday.
-    Begin(u64),
-    /// All rows of the last spans, up to so many ago.
-    Ago(u64),
 }
 
 /// The moment from which a length of time reaches back, and its month.
@@ -61,46 +55,6 @@ impl Limit {
             Limit::Number(number) => newer < number,
             Limit::All => true,
             Limit::Within(reach) => reach.has(since, row),
-            Limit::Begin(_) | Limit::Ago(_) => false,
         }
-    }
-
-    /// Whether a row isn't older than so many of sanoid's periods.
-    pub(crate) fn is_young(self, span: Span, since: &Since, row: &Row) -> bool
-        ensures { result ≡ is_young self span since.now row.now }
-    {
-        match self {
-            Limit::Number(number) => lasts(number, span, since, row),
-            Limit::All | Limit::Within(_) | Limit::Begin(_) | Limit::Ago(_) => false,
-        }
-    }
-}
-
-// Whether so many periods from the row on reach the moment.
-fn lasts(number: u64, span: Span, since: &Since, row: &Row) -> bool
-    ensures { result ≡ nat_le since.now.moment (row.now.moment + number * period span) }
-{
-    let now = since.moment.seconds();
-    let Some(seconds) = number.checked_mul(period(span)) else {
-        return true;
-    };
-    match now.checked_sub(row.moment.seconds()) {
-        Some(apart) => apart <= seconds,
-        None => true,
-    }
-}
-
-// The seconds of sanoid's period.
-fn period(span: Span) -> u64
-    ensures { result ≡ period span }
-{
-    match span {
-        Span::Each | Span::Second => 0,
-        Span::Minute => 900,
-        Span::Hour => 3_600,
-        Span::Day => 86_400,
-        Span::Week => 604_800,
-        Span::Month => 2_678_400,
-        Span::Year => 31_557_600,
     }
 }

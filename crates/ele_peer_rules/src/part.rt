@@ -15,15 +15,9 @@ pub enum Tool {
     OldRestic,
     /// borg 1.
     Borg,
-    /// The timeline of snapper.
-    Snapper,
-    /// sanoid, which tells the kind of a snapshot by its name.
-    Sanoid,
-    /// btrbk, which keeps the first row of each span, up to so many spans ago.
-    Btrbk,
 }
 
-/// Keeps a row of each span, within a limit: the newest one, or the one that its tool takes.
+/// Keeps the newest row of each span, within a limit.
 #[derive(Clone, Copy, Default)]
 pub struct Part {
     pub span: Span,
@@ -36,7 +30,7 @@ impl Tool {
         ensures { result ≡ counts_kept self }
     {
         match self {
-            Tool::Restic | Tool::OldRestic | Tool::Snapper | Tool::Sanoid | Tool::Btrbk => true,
+            Tool::Restic | Tool::OldRestic => true,
             Tool::Borg => false,
         }
     }
@@ -47,7 +41,7 @@ impl Tool {
     {
         match self {
             Tool::Restic => true,
-            Tool::OldRestic | Tool::Snapper | Tool::Sanoid | Tool::Btrbk => false,
+            Tool::OldRestic => false,
             Tool::Borg => matches!(limit, Limit::Number(_)),
         }
     }
@@ -57,16 +51,13 @@ impl Part {
     /// The part's place in the order in which a tool takes them. Two parts of one rank say the same of a rule.
     pub(crate) fn rank(self) -> u8
         ensures rank { result ≡ rank_of self }
-        ensures bound { result < 19 }
+        ensures bound { result < 16 }
     {
         let span = self.span as u8;
         match self.limit {
             Limit::Number(_) | Limit::All => 1 + span,
             Limit::Within(_) if span == 0 => 0,
             Limit::Within(_) => 8 + span,
-            Limit::Begin(_) if span == 4 => 16,
-            Limit::Begin(_) => 17,
-            Limit::Ago(_) => 18,
         }
     }
 }

@@ -1,18 +1,19 @@
-use Rattle.std.proofs.Common.{◌∙◌, Some, ap, codes}
+use Rattle.std.proofs.Common.{◌∙◌, Some, true, ap, codes}
 use Rattle.std.proofs.lemmas.Result.{IfOk-weaker}
 use Rattle.clap.specs.Words.{Rule, rule_of}
 use Rattle.clap.specs.declared.builder.arg.Arg.{Arg}
 use Rattle.clap.specs.declared.builder.action.ArgAction.TheVariants.{Append}
 use Rattle.ele_invocation.specs.Built.{HasRule}
-use Rattle.ele_invocation.specs.Program.{repeated_rule}
+use Rattle.ele_invocation.specs.Program.{repeated_rule, required_rule}
 use Rattle.ele_invocation.proofs.Builders.{adds_arg}
 use Rattle.ele_invocation.proofs.forecast.forecast.Goals as goal
 
 pub returns : goal.returns
 returns c =
-    let policy : HasRule (repeated_rule (codes "policy")) c.action-policy.result = record {
-      rule_is = ap rule_of c.action-policy.ensures ∙ ap (λ (r : Rule). record r { action = Some Append }) c.option.ensures.rule_is;
-      local = ap (λ (a : Arg). a.global) c.action-policy.ensures ∙ c.option.ensures.local;
+    let policy : HasRule (required_rule (codes "policy")) c.required-policy.result = record {
+      rule_is = ap rule_of c.required-policy.ensures ∙ ap (λ (a : Arg). rule_of (record a { required = true })) c.action.ensures
+          ∙ ap (λ (r : Rule). record r { action = Some Append; required = true }) c.option.ensures.rule_is;
+      local = ap (λ (a : Arg). a.global) c.required-policy.ensures ∙ ap (λ (a : Arg). a.global) c.action.ensures ∙ c.option.ensures.local;
     } in
     let at : HasRule (repeated_rule (codes "at")) c.action-at.result = record {
       rule_is = ap rule_of c.action-at.ensures ∙ ap (λ (r : Rule). record r { action = Some Append }) c.option-2.ensures.rule_is;

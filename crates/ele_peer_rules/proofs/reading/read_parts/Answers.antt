@@ -7,8 +7,7 @@ use Rattle.std.specs.List.{AllZip, slice_split}
 use Rattle.ele_peer_rules.specs.declared.part.Part.{Part}
 use Rattle.ele_peer_rules.specs.declared.reading.RuleFault.{RuleFault}
 use Rattle.ele_peer_rules.specs.Kept.{rank_of}
-use Rattle.ele_peer_rules.specs.Marked.{is_mark}
-use Rattle.ele_peer_rules.specs.Words.{AreApart, has_rank}
+use Rattle.ele_peer_rules.specs.Words.{AreApart, has_rank, is_mark}
 use Rattle.ele_peer_rules.proofs.RuleParts.{IsOnly, all_spelled, apart_next, apart_push, each_part, first_wrong, next_same, no_part, only_push, room, same_count, same_ok}
 use Rattle.ele_peer_rules.proofs.reading.read_parts.Goals as goal
 
@@ -21,7 +20,7 @@ pub returns-then-is_full-clause-none : goal.returns-then-is_full-clause-none
 returns-then-is_full-clause-none c parts spelled =
     let turn = YieldsList-turn (YieldsList-at c.into_iter-option-iterator.ensures.into_iter_gives (YieldsList-from_slice_split _ (λ byte. byte == 44) c.args.text.now c.split-option-items.ensures.rest c.split-option-items.ensures.done c.split-option-items.ensures.closure (λ x b q h. search (rules, tests)))) c.loop-option.yielded _ c.loop-option.yielded_by _ _ c.in-Some.option c.in-Some.is c.next.ensures.steps in
     let words = map (λ (option : Bor (List ℕ)). option.now) c.loop-option.yielded in
-    let full = eqb-true (length c.loop-option.parts.items) 19 (sym c.is_full.ensures.value ∙ c.if-is_full.true) in
+    let full = eqb-true (length c.loop-option.parts.items) 16 (sym c.is_full.ensures.value ∙ c.if-is_full.true) in
     let kept = same_count c.args.tool words c.loop-option.parts.items (all_spelled c.args.tool words c.loop-option.parts.items c.loop-option.invariant.each) in
     let all = same_count c.args.tool (slice_split (is_mark 44) c.args.text.now) parts spelled.each in
     omega (arith, turn.0, full, kept, all, spelled.few, length-map c.loop-option.yielded (λ (option : Bor (List ℕ)). option.now))
@@ -72,7 +71,7 @@ returns-in-Err-clause-first c =
 
 pub returns-then-is_full-clause-first : goal.returns-then-is_full-clause-first
 returns-then-is_full-clause-first c =
-    let full = eqb-true (length c.loop-option.parts.items) 19 (sym c.is_full.ensures.value ∙ c.if-is_full.true) in
+    let full = eqb-true (length c.loop-option.parts.items) 16 (sym c.is_full.ensures.value ∙ c.if-is_full.true) in
     let turn = YieldsList-turn (YieldsList-at c.into_iter-option-iterator.ensures.into_iter_gives (YieldsList-from_slice_split _ (λ byte. byte == 44) c.args.text.now c.split-option-items.ensures.rest c.split-option-items.ensures.done c.split-option-items.ensures.closure (λ x b q h. search (rules, tests)))) c.loop-option.yielded _ c.loop-option.yielded_by _ _ c.in-Some.option c.in-Some.is c.next.ensures.steps in
     let far = YieldsList-so_far (YieldsList-at c.into_iter-option-iterator.ensures.into_iter_gives (YieldsList-from_slice_split _ (λ byte. byte == 44) c.args.text.now c.split-option-items.ensures.rest c.split-option-items.ensures.done c.split-option-items.ensures.closure (λ x b q h. search (rules, tests)))) c.loop-option.yielded _ c.loop-option.yielded_by in
     let each = subst (λ (ws : List (List ℕ)). AllZip (IsOnly c.args.tool) ws c.loop-option.parts.items) far c.loop-option.invariant.each in

@@ -1,6 +1,6 @@
 use Rattle.std.proofs.Common.{◌≡◌, length}
 use Rattle.ele_peer_rules.specs.Kept.{after_ranks}
-use Rattle.ele_peer_rules.proofs.rule.PeerRule.marked.Given as goal
+use Rattle.ele_peer_rules.proofs.rule.PeerRule.kept.Given as goal
 
 -- the ranks so far are marked
 abbrev pub invariant-loop-rank : goal.invariant-loop-rank
