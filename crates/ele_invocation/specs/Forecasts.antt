@@ -3,7 +3,7 @@ use Rattle.std.specs.Prelude.{◌≡◌, ◌+◌, ◌<◌, ◌≤◌, ◌==◌, 
 use Rattle.std.specs.Int.{from_bool}
 use Rattle.std.specs.List.{All, AllZip, Any}
 use Rattle.ele_outlook.specs.declared.options.Form.{Form}
-use Rattle.ele_outlook.specs.declared.options.Form.TheVariants.{Table, Drawing, Due, Kept, Json, Csv, Every}
+use Rattle.ele_outlook.specs.declared.options.Form.TheVariants.{Table, Drawing, Due, Kept, Json, Csv, Every, EveryCsv}
 use Rattle.ele_outlook.specs.declared.options.ForecastOptions.{ForecastOptions}
 use Rattle.ele_peer_rules.specs.Words.{MeansRule}
 use Rattle.ele_policy.specs.declared.policy.Policy.{Policy}
@@ -20,10 +20,10 @@ use Rattle.ele_typed_words.specs.When.{SpellsWhen}
 use Rattle.ele_invocation.specs.Matches.{is_given, is_on, values_of}
 use Rattle.clap.specs.Words.{Row, Text, all_of, first_of}
 
--- how many of the forms that exclude each other are asked for
+-- how many of the forms that exclude each other are asked for; a table over time may be CSV
 abbrev pub forms_in : List Row → ℕ
-forms_in rows = from_bool (is_on (codes "svg") rows) + from_bool (is_on (codes "json") rows) + from_bool (is_on (codes "csv") rows)
-    + from_bool (is_given (codes "list") rows) + from_bool (is_given (codes "every") rows)
+forms_in rows = from_bool (is_on (codes "svg") rows) + from_bool (is_on (codes "json") rows) + from_bool (is_given (codes "list") rows)
+    + from_bool (is_on (codes "csv") rows || is_given (codes "every") rows)
 
 -- `--list` has the name of this form
 abbrev pub IsList : Text → Form → Type 0
@@ -31,10 +31,17 @@ IsList word Due = word ≡ codes "due"
 IsList word Kept = word ≡ codes "kept"
 IsList word form = ⊥
 
+-- a table over time with these steps, or its CSV
+abbrev pub over_time : Bool → ℕ → Form
+over_time false step = Every step
+over_time true step = EveryCsv step
+
 -- `--every` has the length of its steps, which isn't 0
-abbrev pub IsOverTime : Text → Form → Type 0
-IsOverTime word (Every step) = SpellsLength word step × (0 < step)
-IsOverTime word form = ⊥
+pub record IsOverTime (csv : Bool) (word : Text) (form : Form) : Type 0 where
+  pub step : ℕ
+  pub spelled : SpellsLength word step
+  pub some : 0 < step
+  pub form_is : form ≡ over_time csv step
 
 -- the form of the flag that is on, or a table
 abbrev pub flagged_form : Bool → Bool → Bool → Form
@@ -46,7 +53,7 @@ pub record IsForm (rows : List Row) (form : Form) : Type 0 where
   pub asked : MatchOption (first_of (codes "list") rows)
       (MatchOption (first_of (codes "every") rows)
       (form ≡ flagged_form (is_on (codes "svg") rows) (is_on (codes "json") rows) (is_on (codes "csv") rows))
-      (λ word. IsOverTime word form))
+      (λ word. IsOverTime (is_on (codes "csv") rows) word form))
       (λ word. IsList word form)
 
 -- a list is of one policy at one moment, and a table over time has moments of its own; in CSV only rules are about moments
@@ -54,6 +61,7 @@ abbrev pub suits : Form → ℕ → ℕ → ℕ → Bool
 suits Due policies moments rules = (policies == 1) && (moments == 1)
 suits Kept policies moments rules = (policies == 1) && (moments == 1)
 suits (Every step) policies moments rules = moments == 0
+suits (EveryCsv step) policies moments rules = moments == 0
 suits Csv policies moments rules = (moments == 0) || nat_lt 0 rules
 suits form policies moments rules = true
 
@@ -73,12 +81,12 @@ SpellsAt (Some now) word m = SpellsWhen now word m
 abbrev pub takes_labels : Form → Bool
 takes_labels Drawing = false
 takes_labels (Every step) = false
+takes_labels (EveryCsv step) = false
 takes_labels form = true
 
--- nor for sizes, and neither has a list
+-- a drawing and a list have none for sizes
 abbrev pub takes_sizes : Form → Bool
 takes_sizes Drawing = false
-takes_sizes (Every step) = false
 takes_sizes Due = false
 takes_sizes Kept = false
 takes_sizes form = true
@@ -97,6 +105,7 @@ takes_rules Drawing = false
 takes_rules Due = false
 takes_rules Kept = false
 takes_rules (Every step) = false
+takes_rules (EveryCsv step) = false
 
 -- an option that is given is one that the form takes
 abbrev pub fits : Bool → Bool → Bool

@@ -40,16 +40,17 @@ const SVG: &str = "Print an SVG drawing instead of the table";
 const TITLE: &str = "Give the drawing this title";
 
 const EVERY: &str = "Print how many versions each policy keeps, every\n\
-    LENGTH from the first closing on";
+    LENGTH from the first closing on; with --sizes also how\n\
+    many bytes it keeps and frees";
 
 const JSON: &str = "Print JSON instead of the table";
 
-const CSV: &str = "Print CSV instead of the table";
+const CSV: &str = "Print CSV instead of the table, also of --every";
 
 const LABELS: &str = "Read a tab and a label after each time, and print it";
 
 const SIZES: &str = "Read a tab and a size in bytes after each time, before\n\
-    a label, and print it";
+    a label, and print it, and what the removals free";
 
 const LIST: &str = "Print only the versions that are `due` or `kept` at the\n\
     moment of --at: their labels, or without --labels their\n\

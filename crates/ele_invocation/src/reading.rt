@@ -36,6 +36,7 @@ ghost use Rattle.ele_invocation.specs.Forecasts.{
   SpellsAt,
   fits,
   flagged_form,
+  over_time,
   suits,
   takes_labels,
   takes_rules,
@@ -102,8 +103,8 @@ const BAD_LABELS: &str = "error: --labels is for the table, --list, --json and -
     the labels out\n\n\
     For more information, try 'elephant forecast --help'.\n";
 
-const BAD_SIZES: &str = "error: --sizes is for the table, --json and --csv: leave it and the sizes \
-    out\n\n\
+const BAD_SIZES: &str = "error: --sizes is for the table, --every, --json and --csv: leave it and \
+    the sizes out\n\n\
     For more information, try 'elephant forecast --help'.\n";
 
 const BAD_TITLE: &str = "error: --title is for --svg\n\n\
@@ -112,7 +113,9 @@ const BAD_TITLE: &str = "error: --title is for --svg\n\n\
 const MANY_POLICIES: &str = "error: --policy is given at most 16 times\n\n\
     For more information, try 'elephant forecast --help'.\n";
 
-const TWO_FORMS: &str = "error: --every, --list, --svg, --json and --csv exclude each other\n\n\
+const TWO_FORMS: &str =
+    "error: --every, --list, --svg, --json and --csv exclude each other, but for --every \
+    with --csv\n\n\
     For more information, try 'elephant forecast --help'.\n";
 
 const BAD_FORM: &str = "error: --rule is for the table, --json and --csv\n\n\
@@ -159,15 +162,15 @@ fn form_in(forecast: &ArgMatches) -> Result<Form, Unread>
     let csv = is_on(forecast, "csv");
     let list = value_of(forecast, "list");
     let every = value_of(forecast, "every");
-    let flags = u32::from(svg) + u32::from(json) + u32::from(csv);
-    if flags + u32::from(list.is_some()) + u32::from(every.is_some()) > 1 {
+    let flags = u32::from(svg) + u32::from(json) + u32::from(list.is_some());
+    if flags + u32::from(csv || every.is_some()) > 1 {
         return Err(Unread::Because(TWO_FORMS));
     }
     if let Some(word) = list {
         return list_of(word);
     }
     match every {
-        Some(word) => every_of(word),
+        Some(word) => every_of(csv, word),
         None => Ok(flagged_form(svg, json, csv)),
     }
 }
@@ -199,14 +202,25 @@ fn list_of(word: &str) -> Result<Form, Unread>
     }
 }
 
-// Returns a table over time with steps of this length.
-fn every_of(word: &str) -> Result<Form, Unread>
-    ensures found { IfOk result (IsOverTime word.now) }
-    ensures only { (form : Form) → IsOverTime word.now form → result ≡ Ok form }
+// Returns a table over time with steps of this length, or its CSV.
+fn every_of(csv: bool, word: &str) -> Result<Form, Unread>
+    ensures found { IfOk result (IsOverTime csv word.now) }
+    ensures only { (form : Form) → IsOverTime csv word.now form → result ≡ Ok form }
 {
     match read_length(word.as_bytes()) {
-        Some(step) if step > 0 => Ok(Form::Every(step)),
+        Some(step) if step > 0 => Ok(over_time(csv, step)),
         _ => Err(Unread::Because(BAD_EVERY)),
+    }
+}
+
+// Returns a table over time with steps of so many seconds, or its CSV.
+fn over_time(csv: bool, step: u64) -> Form
+    ensures { result ≡ over_time csv step }
+{
+    if csv {
+        Form::EveryCsv(step)
+    } else {
+        Form::Every(step)
     }
 }
 
@@ -221,7 +235,7 @@ fn check_counts(form: Form, policies: usize, moments: usize, rules: usize) -> Re
         Form::Due | Form::Kept if policies != 1 || moments != 1 => {
             Err(Unread::Because(BAD_LIST))
         }
-        Form::Every(_) if moments > 0 => Err(Unread::Because(BAD_EVERY)),
+        Form::Every(_) | Form::EveryCsv(_) if moments > 0 => Err(Unread::Because(BAD_EVERY)),
         Form::Csv if moments > 0 && rules == 0 => Err(Unread::Because(BAD_CSV)),
         _ => Ok(()),
     }
@@ -243,10 +257,10 @@ fn check_fields(form: Form, labels: bool, sizes: bool, titled: bool) -> Result<(
         × (fits (takes_sizes form) sizes ≡ true) × (fits (takes_title form) titled ≡ true)) }
 {
     match form {
-        Form::Drawing | Form::Every(_) if labels => Err(Unread::Because(BAD_LABELS)),
-        Form::Drawing | Form::Every(_) | Form::Due | Form::Kept if sizes => {
-            Err(Unread::Because(BAD_SIZES))
+        Form::Drawing | Form::Every(_) | Form::EveryCsv(_) if labels => {
+            Err(Unread::Because(BAD_LABELS))
         }
+        Form::Drawing | Form::Due | Form::Kept if sizes => Err(Unread::Because(BAD_SIZES)),
         Form::Drawing => Ok(()),
         _ if titled => Err(Unread::Because(BAD_TITLE)),
         _ => Ok(()),
@@ -269,7 +283,8 @@ fn check_fit(
     check_file(forecast)?;
     check_counts(form, policies, moments, rules)?;
     check_rules(form, rules)?;
-    check_fields(form, labels, sizes, titled)
+    check_fields(form, labels, sizes, titled)?;
+    Ok(())
 }
 
 // Refuses rules for a form that has none.
