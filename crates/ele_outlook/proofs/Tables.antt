@@ -15,21 +15,17 @@ use Rattle.ele_svg.specs.Drawing.{has_curves}
 use Rattle.ele_peer_rules.specs.declared.row.Row.{Row}
 use Rattle.ele_rule_forecast.specs.Judged.{AreJudged}
 use Rattle.ele_rule_forecast.specs.RuledCsv.{ruled_csv}
+use Rattle.ele_rule_forecast.specs.RuledJson.{ruled_json}
 use Rattle.ele_rule_forecast.specs.RuledTable.{ruled_text}
 use Rattle.ele_rule_forecast.specs.declared.judged.AskedRule.{AskedRule}
 use Rattle.ele_rule_forecast.specs.declared.judged.Judged.{Judged}
 use Rattle.ele_forecast_forms.specs.Csv.{csv_text}
-use Rattle.ele_forecast_forms.specs.OverTime.{count_of, moments_every, moments_from}
-use Rattle.ele_forecast_forms.specs.declared.counts.Counts.{Counts}
-use Rattle.ele_forecast_text.specs.Reach.{first_of}
-use Rattle.ele_space.specs.Amounts.{AreAmountsAt}
-use Rattle.ele_outlook.specs.declared.options.Form.{Form}
-use Rattle.ele_outlook.specs.declared.options.Form.TheVariants.{Table, Drawing, Due, Kept, Json, Csv, Every, EveryCsv}
+use Rattle.ele_forecast_forms.specs.Json.{json_text}
 use Rattle.ele_outlook.specs.Reading.{IsFoundIn, IsOfForm, MayLack}
 use Rattle.ele_outlook.specs.declared.input.ReadLines.{ReadLines}
 use Rattle.ele_outlook.specs.declared.found.Found.{Found}
 use Rattle.ele_outlook.specs.declared.options.ForecastOptions.{ForecastOptions}
-use Rattle.ele_outlook.specs.Told.{AreRows, AsksMuch, IsForecastText, IsOver, has_amounts, is_over, moments_if, plain_table, stayings_of, texts_of, told_csv, told_of, told_table}
+use Rattle.ele_outlook.specs.Told.{AreRows, AsksMuch, IsForecastText, IsOver, is_over, plain_table, stayings_of, texts_of, told_csv, told_json, told_of, told_table}
 
 -- the table of several plans, or none
 pub compared_for : (named : Bool) (details : Details) (plans : List Plan) (moments : ℕ) → length plans ≢ 1 → compared_text details plans moments ≡ plain_table named details plans moments
@@ -77,29 +73,9 @@ curved options closings (inr many) = inr (inr (inl many))
 -- there was no memory for what the form shows
 pub unfound : (options : ForecastOptions) (closings : List ℕ) (plans : List Plan) → ArePlans options.policies.items closings options.moments.items plans → MayLack options plans → (closings ≢ []) ⊎ AsksMuch options
 unfound options closings plans are (inl rules) = inr (inr (inr rules))
-unfound options closings plans are (inr (inl some)) = inr (inl some)
-unfound options closings plans are (inr (inr (inl some))) = inr (inl (asked options.policies.items closings options.moments.items plans are some))
-unfound options closings plans are (inr (inr (inr (inl some)))) = inl (closed_some options.policies.items closings options.moments.items plans are some)
-unfound options closings plans are (inr (inr (inr (inr drawn)))) = curved options closings (drawn_some options.policies.items closings options.moments.items plans are drawn)
-
--- no moments have no counts, and no versions no moments
-no_counts : (rows : List Counts) (moments : List ℕ) → map (λ (row : Counts). row.at) rows ≡ moments → moments ≡ [] → rows ≡ []
-no_counts [] moments at none = refl
-no_counts (row ∷ rows) moments at none = absurd (let e : map (λ (row : Counts). row.at) (row ∷ rows) ≡ [] = at ∙ none in cc)
-
-no_moments : (step : ℕ) (plans : List Plan) → versions_of plans ≡ [] → moments_every step plans ≡ []
-no_moments step plans none = ap (λ (versions : List Forecast). moments_from step (first_of versions) (count_of step versions plans)) none
-
--- if a form with bytes counts at some moment, there is a version
-pub counted_some : (form : Form) (sizes : Bool) (closings : List ℕ) (plans : List Plan) (rows : List Counts) → AreRows form closings plans rows → has_amounts form sizes ≡ true → rows ≢ [] → versions_of plans ≢ []
-counted_some Table sizes closings plans rows are has some = absurd cc
-counted_some Drawing sizes closings plans rows are has some = absurd cc
-counted_some Due sizes closings plans rows are has some = absurd cc
-counted_some Kept sizes closings plans rows are has some = absurd cc
-counted_some Json sizes closings plans rows are has some = absurd cc
-counted_some Csv sizes closings plans rows are has some = absurd cc
-counted_some (Every step) sizes closings plans rows are has some = λ none. some (no_counts rows (moments_every step plans) are.at (no_moments step plans none))
-counted_some (EveryCsv step) sizes closings plans rows are has some = λ none. some (no_counts rows (moments_every step plans) are.at (no_moments step plans none))
+unfound options closings plans are (inr (inl some)) = inr (inl (asked options.policies.items closings options.moments.items plans are some))
+unfound options closings plans are (inr (inr (inl some))) = inl (closed_some options.policies.items closings options.moments.items plans are some)
+unfound options closings plans are (inr (inr (inr drawn))) = curved options closings (drawn_some options.policies.items closings options.moments.items plans are drawn)
 
 -- no rules keep nothing
 pub none_judged : (rules : List AskedRule) (rows : List Row) (moments : List ℕ) → (length rules == 0) ≡ true → AreJudged rules rows moments []
@@ -118,6 +94,14 @@ plain_for named details plans moments (one ∷ others) e = grind (arith, nat_tes
 pub ruled_for : (named : Bool) (details : Details) (plans : List Plan) (moments : ℕ) (judged : List Judged) → (length judged == 0) ≡ false → ruled_text details plans moments judged ≡ told_table named details plans moments judged
 ruled_for named details plans moments [] e = absurd cc
 ruled_for named details plans moments (one ∷ others) e = refl
+
+pub json_for : (details : Details) (plans : List Plan) (judged : List Judged) → (length judged == 0) ≡ true → json_text details plans ≡ told_json details plans judged
+json_for details plans [] e = refl
+json_for details plans (one ∷ others) e = grind (arith, nat_tests)
+
+pub ruled_json_for : (details : Details) (plans : List Plan) (judged : List Judged) → (length judged == 0) ≡ false → ruled_json details plans judged ≡ told_json details plans judged
+ruled_json_for details plans [] e = absurd cc
+ruled_json_for details plans (one ∷ others) e = refl
 
 pub csv_for : (details : Details) (plans : List Plan) (judged : List Judged) → (length judged == 0) ≡ true → csv_text details plans ≡ told_csv details plans judged
 csv_for details plans [] e = refl
@@ -149,8 +133,6 @@ is_text options read plans found form are short found_is =
         judged = found_is.judged;
         listed = found_is.listed;
         counts = subst (λ (closings : List ℕ). AreRows options.form closings plans found.counts.items) form.closings found_is.counts;
-        amounts = subst (λ (closings : List ℕ). AreAmountsAt (moments_if (has_amounts options.form options.sizes) found.counts.items) closings read.details.sizes.items plans found.amounts.items) form.closings found_is.amounts;
-        removals = found_is.removals;
       };
       text_is = refl;
     }

@@ -25,11 +25,8 @@ pub enum Form {
     /// A heading, and a row for each version.
     Csv,
     /// The number of versions that each policy keeps at moments from the first closing on. The moments
-    /// are this many seconds apart, at most 400 of them. With sizes also the bytes that are kept, and those
-    /// that the removals up to then free.
+    /// are this many seconds apart, at most 400 of them.
     Every(u64),
-    /// The same as CSV.
-    EveryCsv(u64),
 }
 
 /// The most policies that a forecast compares.

@@ -1,3 +1,0 @@
-pub mod Amounts
-pub mod AmountsText
-pub mod Removals
