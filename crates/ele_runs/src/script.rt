@@ -55,10 +55,10 @@ fn most_of(left: u64) -> usize
 }
 
 // How a run ended that this line ended.
-fn ended_by<C: Explain + FromFlat>(line: LineBuffer, runner: &Runner<C>) -> RunEnd
-    ensures lines { result.lines ≡ runner.now.number }
+fn ended_by<C: Explain + FromFlat>(line: LineBuffer, runner: &mut Runner<C>) -> RunEnd
+    ensures lines { result.lines ≡ runner.old.number }
     ensures line { result.ended_by ≡ Some (record { line = line; is_cut = false }) }
-    ensures tally { result.tally ≡ runner.now.tally }
+    ensures tally { result.tally ≡ runner.old.tally }
 {
     RunEnd {
         lines: runner.lines(),
@@ -66,7 +66,7 @@ fn ended_by<C: Explain + FromFlat>(line: LineBuffer, runner: &Runner<C>) -> RunE
             line,
             is_cut: false,
         }),
-        tally: runner.tally(),
+        tally: runner.end(),
     }
 }
 
@@ -79,8 +79,10 @@ fn run_pieces<C: Explain + FromFlat, R: Read, W: Write, E: Write>(
     printer: &mut Printer<'_, W>,
     reasons: &mut Printer<'_, E>,
     piece: &mut [u8],
+    mut buffer: LineBuffer,
 ) -> Result<RunEnd, ShellFault>
     requires piece { length piece.old ≡ PIECE }
+    requires buffer { buffer ≡ Some [] }
     requires none { (outlet W.contents printer.old).held ≡ [] }
     requires first { runner.old.number ≡ 0 }
     requires goes_on { runner.old.ended ≡ false }
@@ -89,7 +91,6 @@ fn run_pieces<C: Explain + FromFlat, R: Read, W: Write, E: Write>(
         (outlet W.contents printer.old) (outlet W.contents printer.new)
         (outlet E.contents reasons.new) result }
 {
-    let mut buffer = LineBuffer::new();
     let mut room = MOST_BYTES;
     'pieces: loop {
         printer.hand_over()?;
@@ -118,8 +119,10 @@ fn run_printed<C: Explain + FromFlat, R: Read, W: Write, E: Write>(
     writer: &mut W,
     reasons: &mut Printer<'_, E>,
     piece: &mut [u8],
+    buffer: LineBuffer,
 ) -> Result<RunEnd, ShellFault>
     requires piece { length piece.old ≡ PIECE }
+    requires buffer { buffer ≡ Some [] }
     requires first { runner.old.number ≡ 0 }
     requires goes_on { runner.old.ended ≡ false }
     ensures { Tells (noting runner.old (outlet E.contents reasons.old))
@@ -128,7 +131,7 @@ fn run_printed<C: Explain + FromFlat, R: Read, W: Write, E: Write>(
         × HadMemory result }
 {
     let mut printer = Printer::new(writer);
-    run_pieces(runner, reader, &mut printer, reasons, piece)
+    run_pieces(runner, reader, &mut printer, reasons, piece, buffer)
 }
 
 /// Runs the script that the reader gives in some manner, as `run_over` does without any option, and
@@ -155,9 +158,10 @@ pub fn run_in<C: Explain + FromFlat, R: Read, W: Write, E: Write>(
     ensures no_memory { IsErrOf result ShellFault.NoMemory
         → (reader.new ≡ reader.old) × (writer.new ≡ writer.old) × (reasons.new ≡ reasons.old) }
 {
+    let buffer = LineBuffer::new(alloc)?;
     let mut runner = Runner::<C>::new(alloc, limits, options)?;
     let mut piece = [0; PIECE];
-    run_printed(&mut runner, reader, writer, reasons, &mut piece)
+    run_printed(&mut runner, reader, writer, reasons, &mut piece, buffer)
 }
 
 /// Runs the script that the reader gives: answers each whole line at the writer, and answers how
