@@ -1,55 +1,63 @@
 //! A line that began in an earlier piece.
 //! A contract sees it as `Some` of its bytes, or as `None` if it is too long.
-ghost use Rattle.std.specs.Prelude.{◌≡◌, ◌↔◌, ◌++◌, [], IfOk, IsTrue, Some};
+ghost use Rattle.std.specs.Prelude.{◌≡◌, ◌↔◌, ◌++◌, [], IsTrue, Some};
 ghost use Rattle.std.specs.Option.{option_map, option_and_then};
 ghost use Rattle.ele_runs.specs.LineLength.{line_unless_long};
 
-use ele_moment::NoMemory;
+use arrayvec::ArrayVec;
 use ele_script::LONGEST_LINE;
-use std::alloc::Global;
 use std::marker::Model;
 
-/// A line without its line feed, or the fact that it is too long. It has memory for the longest line
-/// from the start.
+/// A line without its line feed, or the fact that it is too long.
 #[derive(Drop)]
 pub struct LineBuffer {
-    bytes: Vec<u8>,
+    bytes: ArrayVec<u8, LONGEST_LINE>,
     is_too_long: bool,
 }
 
 impl Model for LineBuffer {
-    ghost use Rattle.std.specs.Prelude.{ℕ, ◌≤◌, List, Option, Some, None, if◌then◌else◌, length, vec_capacity};
-    ghost use Rattle.ele_script.specs.Words.{longest_line};
+    ghost use Rattle.std.specs.Prelude.{ℕ, List, Option, Some, None, if◌then◌else◌};
 
     ghost Value = { Option (List ℕ) };
 
     ghost view = { λ b. if b.is_too_long then None else Some b.bytes.items };
-
-    // There is memory for the longest line, and no more of it is used.
-    ghost invariant = { λ b. (length b.bytes.items ≤ longest_line) × (longest_line ≤ vec_capacity b.bytes) };
 }
 
 impl LineBuffer {
-    /// Makes an empty line. `NoMemory` if memory is refused.
-    pub(crate) fn new(alloc: Global) -> Result<LineBuffer, NoMemory>
-        ensures { IfOk result (λ buffer. buffer ≡ Some []) }
+    /// Makes an empty line.
+    pub(crate) fn new() -> LineBuffer
+        ensures { result ≡ Some [] }
     {
-        Ok(LineBuffer {
-            bytes: Vec::with_capacity(alloc, LONGEST_LINE)?,
+        LineBuffer {
+            bytes: ArrayVec::new(),
             is_too_long: false,
-        })
+        }
     }
 
-    /// Copies a line into this empty one, or notes that it is too long.
-    pub(crate) fn keep(&mut self, line: Option<&[u8]>)
-        requires { self.old ≡ Some [] }
-        ensures { self.new ≡ option_and_then line_unless_long
+    /// Copies a line, or notes that it is too long.
+    pub(crate) fn kept(line: Option<&[u8]>) -> LineBuffer
+        ensures { result ≡ option_and_then line_unless_long
             (option_map (λ line. line.now) line.entry) }
     {
+        let mut kept = LineBuffer::new();
         match line {
-            Some(line) => self.extend(line),
-            None => self.is_too_long = true,
+            Some(line) => kept.extend(line),
+            None => kept.is_too_long = true,
         }
+        kept
+    }
+
+    /// Returns a copy.
+    pub(crate) fn copy(&self) -> LineBuffer
+        ensures { result ≡ self.now }
+    {
+        let mut copy = LineBuffer::new();
+        if self.is_too_long {
+            copy.is_too_long = true;
+        } else {
+            copy.extend(self.bytes.as_slice());
+        }
+        copy
     }
 
     /// Empties the line.
@@ -65,9 +73,7 @@ impl LineBuffer {
         ensures { self.new
             ≡ option_and_then (λ line. line_unless_long (line ++ bytes.now)) self.old }
     {
-        if bytes.len() > LONGEST_LINE - self.bytes.len()
-            || self.bytes.extend_from_slice(bytes).is_err()
-        {
+        if self.bytes.try_extend_from_slice(bytes).is_err() {
             self.is_too_long = true;
         }
     }
@@ -81,8 +87,7 @@ impl LineBuffer {
 
     /// Returns the line, or `None` if it is too long.
     pub fn line(&self) -> Option<&[u8]>
-        ensures line { option_map (λ line. line.now) result ≡ self.now }
-        ensures short { option_and_then line_unless_long self.now ≡ self.now }
+        ensures { option_map (λ line. line.now) result ≡ self.now }
     {
         if self.is_too_long {
             return None;

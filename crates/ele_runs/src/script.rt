@@ -26,7 +26,7 @@ const MOST_LINES: u64 = 1_000_000;
 const MOST_BYTES: u64 = 8_589_934_592;
 
 /// So many bytes are read at a time, at most.
-const PIECE: usize = 8_192;
+const PIECE: usize = 65_536;
 
 // How many bytes may still come, or lines if these are fewer, as each line has a byte at least.
 fn left_of(room: u64, lines: u64) -> u64
@@ -55,10 +55,10 @@ fn most_of(left: u64) -> usize
 }
 
 // How a run ended that this line ended.
-fn ended_by<C: Explain + FromFlat>(line: LineBuffer, runner: &mut Runner<C>) -> RunEnd
-    ensures lines { result.lines ≡ runner.old.number }
+fn ended_by<C: Explain + FromFlat>(line: LineBuffer, runner: &Runner<C>) -> RunEnd
+    ensures lines { result.lines ≡ runner.now.number }
     ensures line { result.ended_by ≡ Some (record { line = line; is_cut = false }) }
-    ensures tally { result.tally ≡ runner.old.tally }
+    ensures tally { result.tally ≡ runner.now.tally }
 {
     RunEnd {
         lines: runner.lines(),
@@ -66,7 +66,7 @@ fn ended_by<C: Explain + FromFlat>(line: LineBuffer, runner: &mut Runner<C>) -> 
             line,
             is_cut: false,
         }),
-        tally: runner.end(),
+        tally: runner.tally(),
     }
 }
 
@@ -79,10 +79,8 @@ fn run_pieces<C: Explain + FromFlat, R: Read, W: Write, E: Write>(
     printer: &mut Printer<'_, W>,
     reasons: &mut Printer<'_, E>,
     piece: &mut [u8],
-    mut buffer: LineBuffer,
 ) -> Result<RunEnd, ShellFault>
     requires piece { length piece.old ≡ PIECE }
-    requires buffer { buffer ≡ Some [] }
     requires none { (outlet W.contents printer.old).held ≡ [] }
     requires first { runner.old.number ≡ 0 }
     requires goes_on { runner.old.ended ≡ false }
@@ -91,6 +89,7 @@ fn run_pieces<C: Explain + FromFlat, R: Read, W: Write, E: Write>(
         (outlet W.contents printer.old) (outlet W.contents printer.new)
         (outlet E.contents reasons.new) result }
 {
+    let mut buffer = LineBuffer::new();
     let mut room = MOST_BYTES;
     'pieces: loop {
         printer.hand_over()?;
@@ -119,10 +118,8 @@ fn run_printed<C: Explain + FromFlat, R: Read, W: Write, E: Write>(
     writer: &mut W,
     reasons: &mut Printer<'_, E>,
     piece: &mut [u8],
-    buffer: LineBuffer,
 ) -> Result<RunEnd, ShellFault>
     requires piece { length piece.old ≡ PIECE }
-    requires buffer { buffer ≡ Some [] }
     requires first { runner.old.number ≡ 0 }
     requires goes_on { runner.old.ended ≡ false }
     ensures { Tells (noting runner.old (outlet E.contents reasons.old))
@@ -131,7 +128,7 @@ fn run_printed<C: Explain + FromFlat, R: Read, W: Write, E: Write>(
         × HadMemory result }
 {
     let mut printer = Printer::new(writer);
-    run_pieces(runner, reader, &mut printer, reasons, piece, buffer)
+    run_pieces(runner, reader, &mut printer, reasons, piece)
 }
 
 /// Runs the script that the reader gives in some manner, as `run_over` does without any option, and
@@ -158,17 +155,17 @@ pub fn run_in<C: Explain + FromFlat, R: Read, W: Write, E: Write>(
     ensures no_memory { IsErrOf result ShellFault.NoMemory
         → (reader.new ≡ reader.old) × (writer.new ≡ writer.old) × (reasons.new ≡ reasons.old) }
 {
-    let buffer = LineBuffer::new(alloc)?;
+    let Ok(mut piece) = vec![in alloc; 0u8; PIECE] else {
+        return Err(ShellFault::NoMemory);
+    };
     let mut runner = Runner::<C>::new(alloc, limits, options)?;
-    let mut piece = [0; PIECE];
-    run_printed(&mut runner, reader, writer, reasons, &mut piece, buffer)
+    run_printed(&mut runner, reader, writer, reasons, piece.as_mut_slice())
 }
 
 /// Runs the script that the reader gives: answers each whole line at the writer, and answers how
 /// many lines there were, a last one without its line feed counted. An empty line gets no reply, a
 /// line of more than 8,192 bytes only that it is too long, and a last line without its line feed is
-/// never run. The core stands in `alloc`, and the pieces that are read on the stack, 8 KiB at a time.
-/// The writer is not flushed.
+/// never run. The core stands in `alloc`, and the pieces that are read. The writer is not flushed.
 ///
 /// Before it reads on it has handed the answers to all whole lines that it was given to the writer.
 ///

@@ -8,23 +8,23 @@ use Rattle.ele_runs.proofs.lines.finish.Goals as goal
 
 pub returns-in_err-hand_over-clause-last : goal.returns-in_err-hand_over-clause-last
 returns-in_err-hand_over-clause-last g c =
-    finishes_err c.args.runner.old _ _ _ (outlet g.W.Write.contents c.hand_over.new.self) c.from_residual.result c.from_residual.ensures.0 (rw c.line-2.ensures at c.put_cut-cut.ensures.put) c.in_err-hand_over.ensures
+    finishes_err c.args.runner.now _ _ _ (outlet g.W.Write.contents c.hand_over.new.self) c.from_residual.result c.from_residual.ensures.0 (rw c.line-2.ensures at c.put_cut-cut.ensures.put) c.in_err-hand_over.ensures
 
 pub returns-then-cut-gt0-clause-last : goal.returns-then-cut-gt0-clause-last
 returns-then-cut-gt0-clause-last g c =
     let count = c.put_cut-cut.ensures.count ∙ ap cut_count c.line-2.ensures in
     let strict = ap (λ (m : RunOptions). m.strict) (sym c.options.ensures) ∙ c.if-options.true in (
-      (omega (arith, c.lines.ensures, count), ends_at_cut c.args.runner.old c.args.buffer _ count c.if-cut-gt0.true strict, c.end_cut-tally.ensures),
+      (omega (arith, c.lines.ensures, count), ends_at_cut c.args.runner.now c.args.buffer _ count c.if-cut-gt0.true strict, c.tally_of-tally.ensures),
       (puts_no_more (rw c.line-2.ensures at c.put_cut-cut.ensures.put) c.in_ok-hand_over.ensures.0, c.in_ok-hand_over.ensures.1),
     )
 
 pub returns-clause-last : goal.returns-clause-last
 returns-clause-last g c =
     let count = c.put_cut-cut.ensures.count ∙ ap cut_count c.line-2.ensures in
-    let either : (c.args.runner.old.options.strict ≡ false) ⊎ (c.put_cut-cut.result ≤ 0) = elim c.else-options.branch [
+    let either : (c.args.runner.now.options.strict ≡ false) ⊎ (c.put_cut-cut.result ≤ 0) = elim c.else-options.branch [
       | else-options-via-then-options+else-cut-gt0 w ↦ inr (omega (arith, w.if-cut-gt0.false))
       | else-options-via-else-options w ↦ inl (ap (λ (m : RunOptions). m.strict) (sym c.options.ensures) ∙ w.if-options.false)
     ] in (
-      (omega (arith, c.lines.ensures, count), no_end_at c.args.runner.old c.args.buffer _ count either, c.end_cut-tally.ensures),
+      (omega (arith, c.lines.ensures, count), no_end_at c.args.runner.now c.args.buffer _ count either, c.tally_of-tally.ensures),
       (puts_no_more (rw c.line-2.ensures at c.put_cut-cut.ensures.put) c.in_ok-hand_over.ensures.0, c.in_ok-hand_over.ensures.1),
     )

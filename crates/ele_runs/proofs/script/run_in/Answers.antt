@@ -3,14 +3,9 @@ use Rattle.std.proofs.KnownBytes.{Keeps-refl}
 use Rattle.std.proofs.lemmas.Result.{err_from_is_err_and}
 use Rattle.ele_runs.proofs.script.run_in.Goals as goal
 
-pub returns-in_err-buffer-clause-told : goal.returns-in_err-buffer-clause-told
-returns-in_err-buffer-clause-told g c =
-    let p = err_from_is_err_and c.from_residual.result c.from_residual.ensures.1 in
-    rw (p.1, p.2) (Keeps-refl _, Keeps-refl _, refl)
-
 pub returns-in_err-runner-clause-told : goal.returns-in_err-runner-clause-told
 returns-in_err-runner-clause-told g c =
-    let p = err_from_is_err_and c.from_residual-2.result c.from_residual-2.ensures.1 in
+    let p = err_from_is_err_and c.from_residual.result c.from_residual.ensures.1 in
     rw (p.1, p.2) (Keeps-refl _, Keeps-refl _, refl)
 
 pub returns-clause-told : goal.returns-clause-told
