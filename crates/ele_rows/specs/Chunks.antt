@@ -73,9 +73,9 @@ module _ {X : Type 0} where
     pub rest : remove_first p (flat chunks) ≡ before_place chunks i j ++ behind_place chunks i (suc j)
     pub shorter : length (remove_first p (flat chunks)) + 1 ≡ length (flat chunks)
 
-  -- there are as many chunks, and the last one has the same spare capacity or more
+  -- there are no more chunks, and the last one has the same spare capacity or more
   pub record KeepsRoom (old new : Vec (Piece X) Global) : Type 0 where
-    pub chunks : vec_len new ≡ vec_len old
+    pub chunks : vec_len new ≤ vec_len old
     pub room : last_room old.items ≤ last_room new.items
 
   -- a chunk without rows, with a capacity of 1 to 64

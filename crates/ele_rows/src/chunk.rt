@@ -83,6 +83,13 @@ impl<T: Headed + Drop> Chunk<T> {
         self.rows.len() < self.rows.capacity()
     }
 
+    /// Returns for how many more rows there is memory.
+    pub fn spare(&self) -> usize
+        ensures { result ≡ room_of self.now }
+    {
+        self.rows.capacity() - self.rows.len()
+    }
+
     /// Returns whether there is no row.
     pub fn is_empty(&self) -> bool
         ensures { IsTrue result ↔ (self.now.items ≡ []) }
@@ -100,6 +107,17 @@ impl<T: Headed + Drop> Chunk<T> {
         self.last = row.head();
         self.heads.push_reserved(self.last);
         self.rows.push_reserved(row);
+    }
+
+    /// Adds the rows of another chunk at the end, and frees its memory.
+    pub fn take_all(&mut self, other: Chunk<T>)
+        requires { length other.items ≤ room_of self.old }
+        ensures rows { self.new.items ≡ self.old.items ++ other.items }
+        ensures capacity { self.new.capacity ≡ self.old.capacity }
+    {
+        for row in other.rows {
+            self.push(row);
+        }
     }
 
     /// Removes and returns the row at the place.

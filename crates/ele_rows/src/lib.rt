@@ -7,6 +7,7 @@ mod chunks;
 mod cut;
 mod head;
 mod index;
+mod join;
 mod keyed;
 mod room;
 mod rows;

@@ -12,6 +12,7 @@ use crate::chunk::Chunk;
 use crate::chunks::LONGEST_CHUNK;
 use crate::cut::{Change, Cut};
 use crate::head::Headed;
+use crate::join::join_around;
 use crate::keyed::BeforeKey;
 
 /// Whether the last chunk has spare capacity.
@@ -209,8 +210,8 @@ pub fn take_out<T: Headed + Drop>(
 {
     let row = chunks[chunk].remove(place);
     if chunks[chunk].is_empty() {
-        (row, Some(chunks.remove(chunk)))
-    } else {
-        (row, None)
+        return (row, Some(chunks.remove(chunk)));
     }
+    join_around(chunks, chunk);
+    (row, None)
 }
