@@ -52,7 +52,7 @@ fn numbered<C: Explain + FromFlat>(
     }
     let rows = removed(alloc, history)?;
     let names = history.core().name_rows()?;
-    let file = file_at(&names, &tagged.path().to_names()?);
+    let file = file_at(&names, tagged.path().names());
     Ok(row_in(rows, file, number))
 }
 

@@ -1,8 +1,5 @@
 //! The row of a held version, the cut of a search by closing, and the end of a version.
 //! A contract sees its fields, the cells as the layout of their block map.
-ghost use Rattle.std.specs.Prelude.{◌≡◌};
-
-use crate::row_moment::RowMoment;
 use ele_blocks::BlockMap;
 use ele_lists::Keyed;
 use ele_moment::{Moment, VersionNo};
@@ -14,22 +11,10 @@ use ele_rows::{Change, Cut};
 #[derive(Drop)]
 pub struct VersionRow {
     pub number: VersionNo,
-    pub opened: RowMoment,
-    pub closed: RowMoment,
-    pub ended: Option<RowMoment>,
+    pub opened: Moment,
+    pub closed: Moment,
+    pub ended: Option<Moment>,
     pub cells: BlockMap,
-}
-
-const _: () = prove!(size_of::<VersionRow>() == 40);
-
-impl VersionRow {
-    /// Returns the moment at which the version ended. None if it has not.
-    /// Cost: constant time.
-    pub fn end(&self) -> Option<Moment>
-        ensures { result ≡ self.now.ended }
-    {
-        Some(self.ended.as_ref()?.read())
-    }
 }
 
 impl Keyed for VersionRow {
@@ -50,7 +35,7 @@ impl Cut<VersionRow> for ClosedBy {
     ghost before = { λ cut row. nat_le row.closed cut.0 };
 
     fn is_behind(&self, row: &VersionRow) -> bool {
-        row.closed.read() <= self.0
+        row.closed <= self.0
     }
 }
 
@@ -64,6 +49,6 @@ impl Change<VersionRow> for EndsAt {
     ghost changed = { λ end row. record row { ended = Some end.0 } };
 
     fn apply(&self, row: &mut VersionRow) {
-        row.ended = Some(RowMoment::new(self.0));
+        row.ended = Some(self.0);
     }
 }

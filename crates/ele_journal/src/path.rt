@@ -33,7 +33,7 @@ impl Item for Name {
 pub(crate) fn put_path(out: &mut Vec<u8>, path: &Path) -> Result<(), NoMemory>
     ensures { OnOk result (out.new.items ≡ out.old.items ++ names_text path.now) }
 {
-    put_list(out, &path.to_names()?)
+    put_list(out, path.names())
 }
 
 /// Reads a path. The bytes after it follow in the result.

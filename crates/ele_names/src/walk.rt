@@ -11,7 +11,7 @@ use crate::found::Found;
 use crate::names::Names;
 use ele_model::{Refusal, Target};
 use ele_moment::{DirId, Moment, Name};
-use ele_path::{Path, PathNames};
+use ele_path::Path;
 
 /// The directory where each path starts.
 const ROOT: DirId = DirId(0);
@@ -45,11 +45,12 @@ pub fn resolve_at(
 pub fn parent_now(names: &Names, path: &Path) -> Result<(DirId, Name), Refusal>
     ensures { result ≡ parent_now names.now path.now }
 {
-    let Some((before, name)) = path.split_last() else {
+    let path = path.names();
+    let Some(name) = path.last() else {
         return Err(Refusal::IsRoot);
     };
-    match walk(names, before)? {
-        Target::Directory(directory) => Ok((directory, name)),
+    match walk(names, &path[..path.len() - 1])? {
+        Target::Directory(directory) => Ok((directory, *name)),
         Target::File(_) => Err(Refusal::NotDirectory),
     }
 }
@@ -67,11 +68,18 @@ pub fn parent_beside(
     requires { parent_now names.now other.now ≡ Ok known.now }
     ensures { result ≡ parent_now names.now path.now }
 {
-    let beside = path.front().is_same(&other.front());
-    match path.split_last() {
-        Some((_, name)) if beside => Ok((known.0, name)),
+    let beside = before_last(path.names()) == before_last(other.names());
+    match path.names().last() {
+        Some(name) if beside => Ok((known.0, *name)),
         _ => parent_now(names, path),
     }
+}
+
+// The names before the last.
+fn before_last(path: &[Name]) -> &[Name]
+    ensures { result.now ≡ take (length path.now - 1) path.now }
+{
+    &path[..path.len().saturating_sub(1)]
 }
 
 /// Returns the directory of the path's last name, that name, and its target. One walk does what
@@ -98,11 +106,12 @@ pub fn stands_in(names: &Names, target: Target, path: &Path) -> bool
     let Target::Directory(directory) = target else {
         return false;
     };
-    comes_through(names, directory, path.front())
+    let path = path.names();
+    comes_through(names, directory, &path[..path.len().saturating_sub(1)])
 }
 
 // Whether the walk of the live names from the root passes through the directory.
-fn comes_through(names: &Names, id: DirId, path: PathNames<'_>) -> bool
+fn comes_through(names: &Names, id: DirId, path: &[Name]) -> bool
     ensures { result ≡ comes_through names.now id (Directory root) path.now }
 {
     let mut at = Target::Directory(ROOT);
@@ -113,7 +122,7 @@ fn comes_through(names: &Names, id: DirId, path: PathNames<'_>) -> bool
         let Target::Directory(directory) = at else {
             return false;
         };
-        let Some(target) = names.live(directory, &name) else {
+        let Some(target) = names.live(directory, name) else {
             return false;
         };
         at = target;
@@ -122,7 +131,7 @@ fn comes_through(names: &Names, id: DirId, path: PathNames<'_>) -> bool
 }
 
 // Walks along live names from the root.
-fn walk(names: &Names, path: PathNames<'_>) -> Result<Target, Refusal>
+fn walk(names: &Names, path: &[Name]) -> Result<Target, Refusal>
     ensures { result ≡ walk_now names.now path.now }
 {
     let mut at = Target::Directory(ROOT);
@@ -130,7 +139,7 @@ fn walk(names: &Names, path: PathNames<'_>) -> Result<Target, Refusal>
         let Target::Directory(directory) = at else {
             return Err(Refusal::NotDirectory);
         };
-        let Some(target) = names.live(directory, &name) else {
+        let Some(target) = names.live(directory, name) else {
             return Err(Refusal::NoEntry);
         };
         at = target;
@@ -139,7 +148,7 @@ fn walk(names: &Names, path: PathNames<'_>) -> Result<Target, Refusal>
 }
 
 // Walks along names that covered the moment, from the root.
-fn walk_back(names: &Names, path: PathNames<'_>, moment: Moment) -> Result<Target, Refusal>
+fn walk_back(names: &Names, path: &[Name], moment: Moment) -> Result<Target, Refusal>
     ensures { result ≡ walk_covering names.now moment (Directory root) path.now }
 {
     let mut at = Target::Directory(ROOT);
@@ -147,7 +156,7 @@ fn walk_back(names: &Names, path: PathNames<'_>, moment: Moment) -> Result<Targe
         let Target::Directory(directory) = at else {
             return Err(Refusal::NotDirectory);
         };
-        let Some(target) = names.at(directory, &name, moment) else {
+        let Some(target) = names.at(directory, name, moment) else {
             return Err(Refusal::NoEntry);
         };
         at = target;

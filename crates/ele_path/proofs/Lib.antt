@@ -3,7 +3,6 @@ pub mod Words
 pub mod Names
 pub mod Pieces
 pub mod Spelled
-pub mod Stored
 pub mod Tags
 pub mod TaggedFaults
 pub mod PathsAt

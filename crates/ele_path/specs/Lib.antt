@@ -4,7 +4,5 @@ pub mod Tagged
 pub mod TaggedFault
 pub mod PathAt
 pub mod PathText
-pub mod PathInside
-pub mod TextInside
 pub mod OneMeaning
 pub mod Begins
