@@ -50,7 +50,7 @@ EXPORTS = "crates/ele_c/src"
 TYPES = {
     "&mut Elephant": "elephant *", "*mut Elephant": "elephant *", "&mut *mut Elephant": "elephant **", "u64": "uint64_t", "u32": "uint32_t",
     "&mut u64": "uint64_t *", "&[u8]": "const void *", "&mut [u8]": "void *", "&mut Numbers": "inner_row *",
-    "&LimitFields": "const elephant_limits *", "&mut u32": "uint32_t *",
+    "&LimitFields": "const elephant_limits *",
 }
 
 

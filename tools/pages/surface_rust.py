@@ -18,8 +18,7 @@ TESTED = place_of(f"{CRATE}/tests", "const BARE: [(Error, i32, ErrorKind)")
 WIDTH = 130
 TYPES = {
     "elephant *": "*mut elephant", "elephant **": "*mut *mut elephant", "const void *": "*const u8", "void *": "*mut u8", "uint64_t": "u64",
-    "uint32_t": "u32", "size_t": "usize", "uint64_t *": "*mut u64", "uint32_t *": "*mut u32", "int32_t": "i32",
-    "const char *": "*const c_char",
+    "uint32_t": "u32", "size_t": "usize", "uint64_t *": "*mut u64", "int32_t": "i32", "const char *": "*const c_char",
 }
 # The types of the numbers of an enum; of others it is that of a column.
 ENUM_TYPES = {"code": "i32", "tag": "u32"}

@@ -76,9 +76,6 @@ const char *elephant_code_text(int32_t code) {
     case 71: return "Untold: the line was run, but there was no memory for the text of its answer";
     case 72: return "BadCheckpoint: the bytes are no checkpoint of a store";
     case 73: return "HandlesOpen: a handle is open";
-    case 74: return "NoJournal: the store has no journal";
-    case 75: return "HasJournal: the store has a journal";
-    case 76: return "BadJournal: the bytes are no file of a store";
     default: return "no code has this number";
     }
 }

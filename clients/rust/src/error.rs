@@ -173,9 +173,6 @@ errors! {
     Untold = ELEPHANT_UNTOLD, "the line was run, but there was no memory for the text of its answer";
     BadCheckpoint = ELEPHANT_BAD_CHECKPOINT, "the bytes are no checkpoint of a store";
     HandlesOpen = ELEPHANT_HANDLES_OPEN, "a handle is open";
-    NoJournal = ELEPHANT_NO_JOURNAL, "the store has no journal";
-    HasJournal = ELEPHANT_HAS_JOURNAL, "the store has a journal";
-    BadJournal = ELEPHANT_BAD_JOURNAL, "the bytes are no file of a store";
 }
 // End of the codes.
 

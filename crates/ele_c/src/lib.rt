@@ -11,7 +11,6 @@ mod checkpoints;
 mod events;
 mod fresh;
 mod handle;
-mod journals;
 mod lines;
 mod opens;
 mod renewal;

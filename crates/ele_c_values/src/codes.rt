@@ -2,11 +2,9 @@
 ghost use Rattle.std.specs.Prelude.{◌≡◌, pos};
 ghost use Rattle.std.specs.Option.{option_copied};
 ghost use Rattle.ele_c_values.specs.Numbers.{or_never};
-ghost use Rattle.ele_c_values.specs.Codes.{checkpoint_code, code_of, detail_in, detail_of, journal_code, limit_number, number_of, number_or_zero, opening_code, renewal_code, reply_code, reply_detail, reply_number, rest_number};
+ghost use Rattle.ele_c_values.specs.Codes.{checkpoint_code, code_of, detail_in, detail_of, limit_number, number_of, number_or_zero, renewal_code, reply_code, reply_detail, reply_number};
 
-use ele_embed::{
-    CheckpointError, Fault, JournalError, OpenJournalError, RenewalError, Said, Store,
-};
+use ele_embed::{CheckpointError, RenewalError, Said, Store};
 use ele_model::{Moment, PassEnd, Refusal, Reply, VersionNo, Which};
 
 /// Success.
@@ -33,12 +31,6 @@ pub const UNTOLD: i32 = 71;
 pub const BAD_CHECKPOINT: i32 = 72;
 /// A handle is open.
 pub const HANDLES_OPEN: i32 = 73;
-/// The store has no journal.
-pub const NO_JOURNAL: i32 = 74;
-/// The store has a journal.
-pub const HAS_JOURNAL: i32 = 75;
-/// The bytes are no file of a store.
-pub const BAD_JOURNAL: i32 = 76;
 
 /// Neither a moment nor a level.
 pub const NEVER: u64 = u64::MAX;
@@ -93,42 +85,8 @@ pub fn renewal_code(error: RenewalError) -> i32
     ensures { result ≡ pos (renewal_code error) }
 {
     match error {
-        RenewalError::HasJournal => HAS_JOURNAL,
         RenewalError::Open => HANDLES_OPEN,
         RenewalError::Stop(stop) => stop.number() as i32,
-    }
-}
-
-/// Returns the code of an error of a journal.
-pub fn journal_code(error: JournalError) -> i32
-    ensures { result ≡ pos (journal_code error) }
-{
-    match error {
-        JournalError::NoJournal => NO_JOURNAL,
-        JournalError::HasJournal => HAS_JOURNAL,
-        JournalError::NoMemory => NO_MEMORY,
-    }
-}
-
-/// Returns the code of an error of the bytes of a file.
-pub fn opening_code(error: OpenJournalError) -> i32
-    ensures { result ≡ pos (opening_code error) }
-{
-    match error {
-        OpenJournalError::Cut | OpenJournalError::Head => BAD_JOURNAL,
-        OpenJournalError::Damaged(_) | OpenJournalError::Fault(_) => BAD_JOURNAL,
-        OpenJournalError::Stop(stop) => stop.number() as i32,
-    }
-}
-
-/// Returns the number of what follows the whole changes of a file.
-pub fn rest_number(fault: Option<Fault>) -> u32
-    ensures { result ≡ rest_number fault }
-{
-    match fault {
-        None => 0,
-        Some(Fault::Cut) => 1,
-        Some(Fault::Damaged(_)) => 2,
     }
 }
 

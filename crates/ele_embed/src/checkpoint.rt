@@ -40,7 +40,7 @@ impl Store {
         ensures made { OnOk result (self.new ≡ taken_out self.old) }
         ensures none { OnErr result (self.new ≡ self.old) }
     {
-        self.answer = bytes_of(self.alloc, self.noted.core())?;
+        self.answer = bytes_of(self.alloc, self.keeper.core())?;
         Ok(())
     }
 

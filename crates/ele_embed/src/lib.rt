@@ -6,7 +6,7 @@ ghost use Rattle.std.specs.Prelude.{◌≡◌, ◌<◌, ◌≤◌, ◌+◌, ◌+
 ghost use Rattle.std.specs.Option.{option_copied};
 ghost use Rattle.ele_embed.specs.Embedding.{Plain, Recorded, events_in, fresh_plain, fresh_recorded, opened, reply_of, world_in, past_in};
 ghost use Rattle.ele_embed.specs.Hears.{Hears, explaining};
-ghost use Rattle.ele_embed.specs.Kept.{noted_state, state_of};
+ghost use Rattle.ele_embed.specs.Kept.{state_of};
 ghost use Rattle.ele_embed.specs.Takes.{CopiesRead, Runs, Passes, FoldsOrNot, TellsWhy, TellsAhead};
 ghost use Rattle.ele_embed.specs.Text.{IsLong, IsTold, IsRunBlock};
 ghost use Rattle.ele_model.specs.CountsOf.{counts_of};
@@ -16,24 +16,16 @@ ghost use Rattle.ele_runs.specs.declared.said.Said.TheVariants as said;
 
 mod checkpoint;
 mod from_flat;
-mod journal;
 mod keeper;
-pub mod laws;
-mod noted;
-mod opening;
 mod renewal;
 
 pub use crate::checkpoint::CheckpointError;
 pub use crate::from_flat::OpenError;
-pub use crate::journal::JournalError;
 use crate::keeper::Keeper;
-use crate::noted::Noted;
-pub use crate::opening::{OpenJournalError, OpenedStore};
 pub use crate::renewal::RenewalError;
 pub use ele_core::Copied;
 use ele_core::Core;
 use ele_history::History;
-pub use ele_journal::Fault;
 use ele_model::{
     Counts, Event, Limits, Moment, NoMemory, PassEnd, Refusal, Reply, Source, TaggedPath,
 };
@@ -48,7 +40,7 @@ use std::marker::Model;
 /// A store, the answer to its last call, and the last text that it made.
 #[derive(Drop)]
 pub struct Store {
-    noted: Noted,
+    keeper: Keeper,
     said: Said,
     answer: Vec<u8>,
     alloc: Global,
@@ -57,17 +49,12 @@ pub struct Store {
 impl Model for Store {
     ghost use Rattle.std.specs.Prelude.{◌≤◌, vec_capacity};
     ghost use Rattle.ele_embed.specs.Embedding.{Embedding};
-    ghost use Rattle.ele_embed.specs.Kept.{noted_state, state_of};
-    ghost use Rattle.ele_embed.specs.StateCode.{state_code};
+    ghost use Rattle.ele_embed.specs.Kept.{state_of};
     ghost use Rattle.ele_output.specs.Outlet.{room};
-    ghost use Rattle.std.specs.Coded.{codes};
 
     ghost Value = { Embedding };
 
-    // A state may hold another, within its journal.
-    ghost coded = { Prim.hlevel (codes, state_code) };
-
-    ghost view = { λ s. record { state = noted_state s.noted; said = s.said; answer = s.answer.items } };
+    ghost view = { λ s. record { state = state_of s.keeper; said = s.said; answer = s.answer.items } };
 
     // A text that a printer's buffer has room for takes no memory.
     ghost invariant = { λ s. room ≤ vec_capacity s.answer };
@@ -99,11 +86,7 @@ impl Store {
         ensures { IfOk result (λ store. store ≡ opened (state_of keeper)) }
     {
         Ok(Store {
-            noted: Noted {
-                keeper,
-                journal: None,
-                alloc,
-            },
+            keeper,
             said: Said::Nothing,
             answer: Vec::with_capacity(alloc, ROOM)?,
             alloc,
@@ -116,7 +99,7 @@ impl Store {
         ensures answer { self.new.answer ≡ self.old.answer }
     {
         match asked {
-            Ok(event) => self.said = self.noted.hear_event(event),
+            Ok(event) => self.said = self.keeper.hear_event(event),
             Err(fault) => self.said = Said::Bad(fault),
         }
     }
@@ -128,7 +111,7 @@ impl Store {
         ensures said { self.new.said ≡ said.Passed result }
         ensures answer { self.new.answer ≡ self.old.answer }
     {
-        let end = self.noted.hear_pass(budget);
+        let end = self.keeper.hear_pass(budget);
         self.said = Said::Passed(end);
         end
     }
@@ -138,10 +121,10 @@ impl Store {
     pub fn trim(&mut self) -> bool
         ensures { FoldsOrNot self.old result self.new }
     {
-        if !self.noted.has_history() {
+        if !self.keeper.has_history() {
             return false;
         }
-        self.said = self.noted.hear_trim();
+        self.said = self.keeper.hear_trim();
         true
     }
 
@@ -152,7 +135,7 @@ impl Store {
         ensures answer { self.new.answer ≡ self.old.answer }
     {
         match asked {
-            Ok(tagged) => self.said = Said::Why(self.noted.core().fate_at(&tagged)),
+            Ok(tagged) => self.said = Said::Why(self.keeper.core().fate_at(&tagged)),
             Err(fault) => self.said = Said::Bad(fault),
         }
     }
@@ -166,7 +149,7 @@ impl Store {
     {
         match asked {
             Ok(moment) => {
-                self.said = explain_alone(&Question::Ahead(moment), self.noted.core());
+                self.said = explain_alone(&Question::Ahead(moment), self.keeper.core());
             }
             Err(fault) => self.said = Said::Bad(fault),
         }
@@ -178,7 +161,7 @@ impl Store {
     pub fn copy(&self, source: &Source, offset: u64, into: &mut [u8]) -> Result<Copied, Refusal>
         ensures { CopiesRead self.now.state source.now offset into.old into.new result }
     {
-        self.noted.core().copy(source, offset, into)
+        self.keeper.core().copy(source, offset, into)
     }
 
     /// Runs a line of the script language, without its line feed, and makes the text of its answer.
@@ -194,7 +177,7 @@ impl Store {
         ensures err { OnErr result (self.new.answer ≡ []) }
         ensures long { OnErr result (IsLong self.new.state self.new.said) }
     {
-        self.said = hear_kept(self.alloc, explaining(), kept_line(line), &mut self.noted);
+        self.said = hear_kept(self.alloc, explaining(), kept_line(line), &mut self.keeper);
         self.tell()
     }
 
@@ -209,7 +192,7 @@ impl Store {
         ensures said { self.new.said ≡ self.old.said }
     {
         self.answer.clear();
-        let told = write_said(&self.said, &self.noted, self.alloc, &mut self.answer);
+        let told = write_said(&self.said, &self.keeper, self.alloc, &mut self.answer);
         if told.is_err() {
             self.answer.clear();
         }
@@ -235,7 +218,7 @@ impl Store {
         ensures { option_copied result ≡ reply_of self.now }
     {
         match self.said {
-            Said::Replied => self.noted.last(),
+            Said::Replied => self.keeper.last(),
             _ => None,
         }
     }
@@ -244,14 +227,14 @@ impl Store {
     pub fn now(&self) -> Moment
         ensures { result ≡ (world_in self.now.state).now }
     {
-        self.noted.core().now()
+        self.keeper.core().now()
     }
 
     /// Returns the history, if there is one.
     pub fn history(&self) -> Option<&History<Core>>
         ensures { option_copied result ≡ past_in self.now.state }
     {
-        self.noted.history()
+        self.keeper.history()
     }
 
     /// Returns how many of each kind were ever made, as the limits count them: open drafts count as
@@ -259,14 +242,14 @@ impl Store {
     pub fn counts(&self) -> Counts
         ensures { result ≡ counts_of (world_in self.now.state) }
     {
-        self.noted.core().counts()
+        self.keeper.core().counts()
     }
 
     /// Returns how many events the history has, with those that are folded. Without a history it returns 0.
     pub fn events(&self) -> u64
         ensures { result ≡ events_in (past_in self.now.state) }
     {
-        match self.noted.history() {
+        match self.keeper.history() {
             Some(history) => history.count(),
             None => 0,
         }
@@ -286,20 +269,20 @@ fn explaining() -> RunOptions
 // memory for a long one was refused.
 fn write_said(
     said: &Said,
-    noted: &Noted,
+    keeper: &Keeper,
     alloc: Global,
     answer: &mut Vec<u8>,
 ) -> Result<(), WriteFault>
     requires empty { answer.old.items ≡ [] }
     requires room { room ≤ vec_capacity answer.old }
-    ensures ok { OnOk result (IsTold (noted_state noted.now) said.now answer.new.items) }
-    ensures long { OnErr result (IsLong (noted_state noted.now) said.now) }
+    ensures ok { OnOk result (IsTold (state_of keeper.now) said.now answer.new.items) }
+    ensures long { OnErr result (IsLong (state_of keeper.now) said.now) }
     ensures room { room ≤ vec_capacity answer.new }
 {
     // What the printer had no room for, which comes before what it holds.
     let mut front = Vec::new(alloc);
     let mut printer = Printer::new(&mut front);
-    put_said(said, noted, &mut printer);
+    put_said(said, keeper, &mut printer);
     printer.check()?;
     append(answer, printer.held())?;
     let held = answer.len();
@@ -309,13 +292,13 @@ fn write_said(
 }
 
 // Prints the text of an answer.
-fn put_said<W: Write>(said: &Said, noted: &Noted, printer: &mut Printer<'_, W>)
-    ensures { (text : List ℕ) × IsTold (noted_state noted.now) said.now text
+fn put_said<W: Write>(said: &Said, keeper: &Keeper, printer: &mut Printer<'_, W>)
+    ensures { (text : List ℕ) × IsTold (state_of keeper.now) said.now text
         × Prints W.contents printer.old printer.new text }
 {
-    match noted.history() {
-        Some(history) => said.put(noted.last(), history.folded(), history.entries(), printer),
-        None => said.put(noted.last(), 0, &[], printer),
+    match keeper.history() {
+        Some(history) => said.put(keeper.last(), history.folded(), history.entries(), printer),
+        None => said.put(keeper.last(), 0, &[], printer),
     }
 }
 

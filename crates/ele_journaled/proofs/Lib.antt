@@ -1,8 +1,10 @@
 -- an event that doesn't count changes nothing
 mod Uncounted
--- which files keep a world with its journal
+-- which files keep a store after a call
 pub mod Kept
--- the law of all of it
-pub mod FilesStay
+-- events and changes that run
+pub mod Runs
+-- what bytes are opened as
+pub mod Openings
 -- a store by hand
 pub mod Examples

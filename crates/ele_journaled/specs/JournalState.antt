@@ -1,13 +1,12 @@
--- What contracts see of the journal of a store, apart from its world, and how it changes.
-use Rattle.std.specs.Prelude.{◌≡◌, ◌≢◌, ℕ, Bool, true, false, ◌&&◌, not, List, [], ◌∷◌, ◌++◌, length, drop, Option, Some, None, if◌then◌else◌}
+-- What contracts see of a journal apart from the world, and how it changes.
+use Rattle.std.specs.Prelude.{◌≡◌, ◌≢◌, ℕ, List, [], ◌∷◌, ◌++◌, length, drop, Option, Some, None}
 use Rattle.ele_model.specs.declared.event.Event.{Event}
 use Rattle.ele_model.specs.declared.reply.Reply.{Reply}
-use Rattle.ele_model.specs.declared.reply.Reply.TheVariants as replies
 use Rattle.ele_model.specs.World.{World}
 use Rattle.ele_journal.specs.Changes.{after_change, change_text}
-use Rattle.ele_journal.specs.Events.{changes}
 use Rattle.ele_journal.specs.Journal.{first_check}
 use Rattle.ele_journaled.specs.declared.offer.Offer.{Offer}
+use Rattle.ele_journaled.specs.Store.{Store, grown}
 
 -- a journal
 pub record JournalState : Type 0 where
@@ -18,24 +17,13 @@ pub record JournalState : Type 0 where
   -- of the bytes that were given last, and may be on the disk by now: the check at their end, and how many events of the change they have
   pub offer : Option Offer
 
+-- the store of a world and its journal
+abbrev pub beside : World → JournalState → Store
+beside world journal = record { world = world; check = journal.check; change = journal.change; offer = journal.offer }
+
 -- the file ends with that check, and nothing is under way
 abbrev pub idle : List ℕ → JournalState
 idle check = record { check = check; change = []; offer = None }
-
--- ---- an event
-
--- the reply says that nothing has changed
-abbrev pub is_unchanged : Reply → Bool
-is_unchanged (replies.Refused refusal) = true
-is_unchanged replies.Nothing = true
-is_unchanged reply = false
-
--- whether the event with this reply belongs into the journal: it is no question, and it wasn't refused or found nothing due
-abbrev pub counts : Event → Reply → Bool
-counts event reply = changes event && not (is_unchanged reply)
-
-abbrev pub grown : List Event → Event → Reply → List Event
-grown change event reply = if counts event reply then change ++ event ∷ [] else change
 
 -- the event is under way
 abbrev pub adding : JournalState → Event → JournalState
@@ -44,8 +32,6 @@ adding journal event = record journal { change = journal.change ++ event ∷ [] 
 -- the event was answered by the reply, so it is under way if it counts
 abbrev pub noting : JournalState → Event → Reply → JournalState
 noting journal event reply = record journal { change = grown journal.change event reply }
-
--- ---- bytes
 
 -- bytes were given that end with the check and have the whole change
 abbrev pub offering : JournalState → List ℕ → JournalState

@@ -1,4 +1,5 @@
+pub mod Store
 pub mod JournalState
 pub mod Keeps
-pub mod FilesStay
+pub mod Opened
 pub mod Example

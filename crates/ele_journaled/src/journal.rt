@@ -1,16 +1,16 @@
-//! The journal: the events that the file of a store doesn't have yet.
-//! A contract sees the check at the end of the file, these events, and what is remembered of the
+//! The journal of a store, apart from what keeps its world: which bytes its file gets.
+//! A contract sees the check at the end of the file, the events since, and what is remembered of the
 //! bytes that were given last.
-ghost use Rattle.std.specs.Prelude.{◌≡◌, ◌-◌, ◌<◌, ◌≤◌, IfOk, IfSome, OnErr, OnOk, Some, drop, is_some, length, take, true, vec_len};
+ghost use Rattle.std.specs.Prelude.{◌≡◌, ◌-◌, ◌<◌, IfOk, IfSome, OnErr, OnOk, Some, is_some, length, take, true};
 ghost use Rattle.std.specs.Option.{option_map};
-ghost use Rattle.ele_journal.specs.Changes.{IsEncodable, after_change, change_text};
 ghost use Rattle.ele_journal.specs.Events.{changes};
 ghost use Rattle.ele_journal.specs.Journal.{first_check, start};
 ghost use Rattle.ele_journaled.specs.JournalState.{Extends, adding, confirming, idle, replacing, settling};
 ghost use Rattle.ele_journaled.specs.Keeps.{IsSound};
 
 use crate::offer::Offer;
-use ele_journal::{Added, Check, begin, encode};
+use crate::{change_of, drop_front};
+use ele_journal::{Added, Check, begin};
 use ele_model::{Event, Flat, NoMemory};
 use std::alloc::Global;
 use std::marker::Model;
@@ -178,27 +178,4 @@ fn drop_last(events: &mut Vec<Event>)
 {
     let left = events.len().saturating_sub(1);
     events.truncate(left);
-}
-
-// Drops so many events from the front.
-#[tactic(auto, using(crate::proofs::Kept::turned))]
-fn drop_front(events: &mut Vec<Event>, count: usize)
-    requires { count ≤ vec_len events.old }
-    ensures { events.new.items ≡ drop count events.old.items }
-{
-    let left = events.len() - count;
-    events.rotate_left(count);
-    events.truncate(left);
-}
-
-// The bytes of a change of events that may change a world.
-fn change_of(alloc: Global, before: Check, events: &[Event]) -> Result<Added, NoMemory>
-    requires { IsEncodable events.now }
-    ensures bytes { IfOk result (λ added. added.bytes.items ≡ change_text before events.now) }
-    ensures check { IfOk result (λ added. added.check ≡ after_change before events.now) }
-{
-    match encode(alloc, before, events) {
-        Ok(added) => Ok(added),
-        Err(_) => Err(NoMemory),
-    }
 }

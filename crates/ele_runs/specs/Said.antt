@@ -27,7 +27,7 @@ use Rattle.ele_printer.specs.declared.fault.LineFault.{LineFault}
 use Rattle.ele_printer.specs.declared.fault.LineFault.TheVariants.{Syntax, LineTooLong}
 use Rattle.ele_run_options.specs.RunOptions.{front_of, heard}
 use Rattle.ele_run_options.specs.declared.options.RunOptions.{RunOptions}
-use Rattle.ele_runs.specs.Kept.{Kept, Plain, Recorded, Journaled, Answered, Folds, HasEntries, Passes, Stays, StopsEvent, bare, has_past, world_in}
+use Rattle.ele_runs.specs.Kept.{Kept, Plain, Recorded, Answered, Folds, HasEntries, Passes, Stays, StopsEvent, has_past, world_in}
 use Rattle.ele_runs.specs.declared.said.Said.{Said}
 use Rattle.ele_runs.specs.declared.said.Said.TheVariants.{Nothing, Bad, Stopped, Replied, Passed, History, Trimmed, Why, WhyRemoved, Ahead, Gone, Handles, Answers, Story}
 use Rattle.ele_script.specs.FirstFault.{IsFirstFault}
@@ -103,18 +103,17 @@ pub data NeedsPast (explains : Bool) (line : List ℕ) : Type 0 where
 abbrev pub IsFault : Bool → Kept → List ℕ → LineFault → Type 0
 IsFault explains (Recorded past) line fault = IsFirstFault explains line fault
 IsFault explains (Plain w last) line fault = IsFirstFault explains line fault ⊎ ((fault ≡ Syntax) × NeedsPast explains line)
-IsFault explains (Journaled kept journal) line fault = IsFault explains kept line fault
 
 -- a line may need memory: to be read, for its event, its trim or its question
 pub data LineTakesMemory (explains : Bool) (before : Kept) (line : List ℕ) : Type 0 where
   to_read : TakesMemory explains (words_of line) → LineTakesMemory explains before line
   to_answer : (event : Event) → Asks explains line (asks.Event event) → StopsEvent before event NoMemory → LineTakesMemory explains before line
   to_trim : Asks explains line asks.Trim → HasEntries before → LineTakesMemory explains before line
-  to_tell : (asked : Question) → Asks explains line (asks.Question asked) → MayTake (bare before) asked → LineTakesMemory explains before line
+  to_tell : (asked : Question) → Asks explains line (asks.Question asked) → MayTake before asked → LineTakesMemory explains before line
 
 -- the answer to the line's question, which changes nothing
 abbrev pub MaySay : Bool → Kept → List ℕ → Said → Kept → Type 0
-MaySay explains before line said after = (asked : Question) × Asks explains line (asks.Question asked) × Says said (bare before) asked × Stays before after
+MaySay explains before line said after = (asked : Question) × Asks explains line (asks.Question asked) × Says said before asked × Stays before after
 
 -- the answer to a line that isn't empty: its first fault, the reply to its event, the end of its pass, the history, or the number
 -- of entries that its trim folds. In a run that explains, also the answer to a question. A line that needs memory may be stopped
@@ -199,9 +198,9 @@ Trims before said after = ⊥
 
 -- the answer to a question; memory may stop it, and some need a history
 abbrev pub Explains : Kept → Question → Said → Type 0
-Explains kept asked (Stopped stop) = (stop ≡ NoMemory) × MayTake (bare kept) asked
+Explains kept asked (Stopped stop) = (stop ≡ NoMemory) × MayTake kept asked
 Explains kept asked (Bad fault) = (fault ≡ Syntax) × (has_past kept ≡ false) × IsOfPast asked
-Explains kept asked said = Says said (bare kept) asked
+Explains kept asked said = Says said kept asked
 
 -- the keys that will be due at a moment; memory may stop that only if the moment hasn't passed, and there is one
 abbrev pub SaysAhead : World → ℕ → Said → Type 0
