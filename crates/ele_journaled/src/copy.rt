@@ -34,6 +34,7 @@ pub fn copy_of(alloc: Global, event: &Event) -> Result<Event, NoMemory>
         Event::Revert(path, version) => Event::Revert(path_of(path)?, *version),
         Event::Restore(path, moment) => Event::Restore(path_of(path)?, *moment),
         Event::CleanOne => Event::CleanOne,
+        Event::Note(bytes) => Event::Note(bytes_of(alloc, bytes)?),
         Event::SetPolicy(path, policy) => Event::SetPolicy(path_of(path)?, policy.copy(alloc)?),
         Event::SetDefault(path, policy) => Event::SetDefault(path_of(path)?, policy.copy(alloc)?),
         Event::GroupMake(name) => Event::GroupMake(name.copy(alloc)?),
