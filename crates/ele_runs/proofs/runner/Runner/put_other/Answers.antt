@@ -1,5 +1,5 @@
 use Rattle.ele_runs.proofs.Blocks.{block_put}
-use Rattle.ele_runs.proofs.runner.Runner.put_block.Goals as goal
+use Rattle.ele_runs.proofs.runner.Runner.put_other.Goals as goal
 
 pub returns : goal.returns
 returns g c =
