@@ -1,6 +1,7 @@
-"""The rules of restic and borg, as crates/ele_peer_rules/specs say them, and random lists and rules of both."""
+"""The rules of restic, borg, snapper and sanoid, as crates/ele_peer_rules/specs say them, and random lists and rules of each."""
 
 import random
+import re
 from collections.abc import Sequence
 from datetime import datetime, timedelta, timezone
 from typing import NamedTuple
@@ -14,12 +15,16 @@ STEPS = [0, 1, 59, 60, 600, 1800, 3600, 5400, 7200, 21600, 43200, 82800, 86400, 
 SPANS = ["last", "secondly", "minutely", "hourly", "daily", "weekly", "monthly", "yearly"]
 RESTIC = ["last", "hourly", "daily", "weekly", "monthly", "yearly"]
 BORG = SPANS[1:]
+SNAPPER = ["hourly", "daily", "weekly", "monthly", "yearly"]
+# sanoid's kinds, and the seconds of their periods. `frequently` is each quarter of an hour.
+PERIODS = {"minutely": 900, "hourly": 3600, "daily": 86400, "weekly": 604800, "monthly": 2678400, "yearly": 31557600}
 BORG_UNITS = {"H": 3600, "d": 86400, "w": 604800, "m": 2678400, "y": 31536000}
 
 
 class Row(NamedTuple):
     moment: int
     offset: int
+    label: str = ""
 
     @property
     def clock(self) -> datetime:
@@ -27,13 +32,14 @@ class Row(NamedTuple):
 
 
 class Part(NamedTuple):
-    """Keeps the newest row of each span: so many (-1 for all), or those within a length of time."""
+    """Keeps a row of each span: so many (-1 for all), or those within a length of time. A name is that of the tool's own option."""
 
     span: str
     number: int | None
     months: int = 0
     seconds: int = 0
     text: str = ""
+    name: str = ""
 
     @property
     def rank(self) -> int:
@@ -42,6 +48,8 @@ class Part(NamedTuple):
 
     @property
     def option(self) -> str:
+        if self.name:
+            return self.name
         if self.number is not None:
             return f"keep-{self.span}"
         return "keep-within" if self.span == "last" else f"keep-within-{self.span}"
@@ -73,8 +81,50 @@ def back(newest: Row, part: Part) -> float:
     return (first + timedelta(days=clock.day - 1)).timestamp() - part.seconds
 
 
+def snapper_kept(parts: Sequence[Part], now: int, rows: Sequence[Row]) -> list[Reason | None]:
+    """Returns what keeps each row in a timeline of snapper: its age, or a limit that counts the first rows of spans from the newest on."""
+    young = next((it.seconds for it in parts if it.number is None), 0)
+    marks: list[Reason | None] = [None] * len(rows)
+    for at, row in enumerate(rows):
+        if row.moment > now - young:
+            marks[at] = Reason("last", "within", len(rows) - at)
+    for part in sorted((it for it in parts if it.number is not None), key=lambda it: SPANS.index(it.span)):
+        firsts = {span_of(part.span, row.clock): at for at, row in reversed(list(enumerate(rows)))}
+        for number, at in enumerate(sorted(firsts.values(), reverse=True)[: part.number], 1):
+            marks[at] = marks[at] or Reason(part.span, "count", number)
+    return marks
+
+
+def sanoid_kind(label: str) -> str | None:
+    """Returns the span of the kind that sanoid reads in a snapshot's name."""
+    found = re.fullmatch(r"(?:.*@)?autosnap.*_(\w*ly)", label)
+    kind = found and {"frequently": "minutely"}.get(found[1], found[1])
+    return kind if kind in PERIODS else None
+
+
+def sanoid_kept(parts: Sequence[Part], now: int, rows: Sequence[Row]) -> list[Reason | None]:
+    """Returns what keeps each row in sanoid, which goes through the snapshots of a kind from the oldest on."""
+    wanted = {it.span: it.number or 0 for it in parts}
+    others = [at for at, row in enumerate(rows) if sanoid_kind(row.label) is None]
+    marks: list[Reason | None] = [None] * len(rows)
+    for number, at in enumerate(reversed(others), 1):
+        marks[at] = Reason("last", "other", number)
+    for kind, most in wanted.items():
+        places = [at for at, row in enumerate(rows) if sanoid_kind(row.label) == kind]
+        for number, at in zip(range(len(places), 0, -1), places):
+            if number <= most:
+                marks[at] = Reason(kind, "count", number)
+            elif rows[at].moment >= now - most * PERIODS[kind]:
+                marks[at] = Reason(kind, "within", number)
+    return marks
+
+
 def kept(tool: str, parts: Sequence[Part], now: int, rows: Sequence[Row]) -> list[Reason | None]:
     """Returns what keeps each row, as `specs/` say. Rows are in order of time."""
+    if tool == "snapper":
+        return snapper_kept(parts, now, rows)
+    if tool == "sanoid":
+        return sanoid_kept(parts, now, rows)
     marks: list[Reason | None] = [None] * len(rows)
     for part in sorted(parts, key=lambda it: it.rank):
         before = list(marks)
@@ -130,3 +180,29 @@ def restic_rule(chance: random.Random) -> list[Part]:
         months, seconds, text = restic_length(chance)
         parts.append(Part(span, None, months, seconds, text))
     return parts
+
+
+def snapper_rule(chance: random.Random) -> list[Part]:
+    counts = [0, 1, 2, 3, 5, 10]
+    parts = [Part(it, chance.choice(counts), name=f"TIMELINE_LIMIT_{it.upper()}") for it in chance.sample(SNAPPER, chance.randrange(1, 5))]
+    if chance.random() < 0.5:
+        seconds = chance.choice([0, 1, 60, 1800, 3600, 86400, 2678400])
+        parts.append(Part("last", None, 0, seconds, str(seconds), "TIMELINE_MIN_AGE"))
+    chance.shuffle(parts)
+    return parts
+
+
+def sanoid_rule(chance: random.Random) -> list[Part]:
+    names = {"minutely": "frequently"}
+    spans = chance.sample(list(PERIODS), chance.randrange(1, 6))
+    return [Part(it, chance.choice([0, 1, 2, 3, 7, 30]), name=names.get(it, it)) for it in spans]
+
+
+def with_names(chance: random.Random, rows: Sequence[Row]) -> list[Row]:
+    """Returns the rows with names as sanoid gives them, and some of others."""
+    kinds = chance.sample(["frequently", "hourly", "daily", "weekly", "monthly", "yearly"], chance.randrange(1, 4))
+    named = []
+    for row in rows:
+        name = f"autosnap_{row.clock:%Y-%m-%d_%H:%M:%S}_{chance.choice(kinds)}"
+        named.append(row._replace(label=chance.choice([name] * 8 + [f"pool/data@{name}", "before-upgrade", "manual_daily", f"{name}x"])))
+    return named

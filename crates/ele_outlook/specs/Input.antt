@@ -1,5 +1,5 @@
 -- The closings in an input, a moment a line, and its first bad line.
-use Rattle.std.specs.Prelude.{◌≡◌, ◌≢◌, ℕ, Bool, true, false, map, ◌+◌, ◌-◌, ◌<◌, ◌≤◌, ◌*◌, ◌==◌, ◌||◌, ◌&&◌, List, [], ◌∷◌, ◌++◌, length, slice_get, IfSome, codes, decimal}
+use Rattle.std.specs.Prelude.{◌≡◌, ◌≢◌, ℕ, Bool, true, false, map, ◌+◌, ◌-◌, ◌<◌, ◌≤◌, ◌*◌, ◌==◌, ◌||◌, ◌&&◌, List, [], ◌∷◌, ◌++◌, length, slice_get, IfSome, codes, decimal, if◌then◌else◌}
 use Rattle.std.specs.List.{AllZip, after_first, before_first, slice_split}
 use Rattle.std.specs.Str.{IsUtf8}
 use Rattle.ele_lists.specs.Lists.{AllLater}
@@ -8,10 +8,13 @@ use Rattle.ele_moment.specs.Number.{SpellsNumber}
 use Rattle.ele_tool_words.specs.ByClock.{SpellsBy}
 use Rattle.ele_tool_words.specs.declared.zone.Offset.{Offset}
 use Rattle.ele_tool_words.specs.declared.zone.Offset.TheVariants.{Ahead, Behind}
+use Rattle.ele_peer_rules.specs.Kinds.{kind_of}
 use Rattle.ele_peer_rules.specs.Shown.{IsRow, IsShown}
 use Rattle.ele_peer_rules.specs.declared.row.Offset.{Offset as InSeconds}
 use Rattle.ele_peer_rules.specs.declared.row.Offset.TheVariants as seconds
 use Rattle.ele_peer_rules.specs.declared.row.Row.{Row}
+use Rattle.ele_peer_rules.specs.declared.span.Span.{Span}
+use Rattle.ele_peer_rules.specs.declared.span.Span.TheVariants.{Each}
 use Rattle.ele_output.specs.Line.{line_text}
 use Rattle.ele_outlook.specs.declared.fault.BadLine.{BadLine}
 use Rattle.ele_outlook.specs.declared.fault.BadLine.TheVariants.{NotMoment, NoSize, NoLabel, NotUtf8, NotShown, OutOfOrder}
@@ -93,11 +96,15 @@ abbrev pub in_seconds : Offset → InSeconds
 in_seconds (Ahead minutes) = seconds.Ahead (60 * minutes)
 in_seconds (Behind minutes) = seconds.Behind (60 * minutes)
 
--- the line's time, and what its clock shows then
+-- the kind that the label of a line tells, if lines have labels
+abbrev pub kind_in : LineForm → List ℕ → Span
+kind_in form line = if form.columns.labels then kind_of (label_of form line) else Each
+
+-- the line's time, what its clock shows then, and its kind
 pub record SpellsRow (form : LineForm) (line : List ℕ) (row : Row) : Type 0 where
   pub offset : Offset
   pub time : SpellsBy form.clock (time_of form line) row.moment offset
-  pub row_is : IsRow row.moment (in_seconds offset) row
+  pub row_is : IsRow row.moment (in_seconds offset) (kind_in form line) row
 
 pub record SpellsLine (form : LineForm) (line : List ℕ) (row : Row) : Type 0 where
   pub fields : HasFields form line

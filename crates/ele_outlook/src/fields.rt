@@ -73,8 +73,8 @@ fn size_word(form: LineForm, line: &[u8]) -> &[u8]
     before_tab_if(form.columns.labels, cut_at_tab(line).1)
 }
 
-// Returns the label of a line: the part after its first tab, or after its second if lines have sizes.
-fn label_of(form: LineForm, line: &[u8]) -> &[u8]
+/// Returns the label of a line: the part after its first tab, or after its second if lines have sizes.
+pub(crate) fn label_of(form: LineForm, line: &[u8]) -> &[u8]
     ensures { result.now ≡ label_of form line.now }
 {
     after_tab_if(form.columns.sizes, cut_at_tab(line).1)

@@ -1,14 +1,15 @@
 -- What a part marks and counts, one row at a time, from the newest on.
-use Rattle.std.proofs.Common.{◌≡◌, ℕ, zero, suc, ◌+◌, ◌<◌, ◌≤◌, ◌==◌, ◌++◌, Bool, false, List, [], ◌∷◌, Option, Some, length, take, drop, set, get_or, slice_get, refl, ap, subst, arith}
-use Rattle.std.proofs.lemmas.Bool.{ne_eqb}
+use Rattle.std.proofs.Common.{◌≡◌, ℕ, zero, suc, ◌+◌, ◌<◌, ◌≤◌, ◌++◌, Bool, List, [], ◌∷◌, Option, Some, length, take, drop, set, get_or, slice_get, refl, ap, subst, ◌∙◌, arith}
+use Rattle.std.proofs.lemmas.Option.{slice_get_read}
+use Rattle.ele_lists.specs.Ends.{last_of}
+use Rattle.ele_lists.proofs.Ends.{last-take}
 use Rattle.ele_peer_rules.specs.declared.limit.Since.{Since}
 use Rattle.ele_peer_rules.specs.declared.part.Part.{Part}
 use Rattle.ele_peer_rules.specs.declared.part.Tool.{Tool}
 use Rattle.ele_peer_rules.specs.declared.reason.Reason.{Reason}
 use Rattle.ele_peer_rules.specs.declared.row.Row.{Row}
 use Rattle.ele_peer_rules.specs.declared.span.Span.{Span}
-use Rattle.ele_peer_rules.specs.Marks.{after_from, count, counts, marked}
-use Rattle.ele_peer_rules.specs.Spans.{is_newest}
+use Rattle.ele_peer_rules.specs.Marks.{after_from, count, counts, is_oldest, marked, takes}
 
 -- what is known of one turn of the loop, at the row of that place
 pub record IsTurn (tool : Tool) (since : Since) (part : Part) (i : ℕ) (rows : List Row) (old current : List (Option Reason)) (counted : ℕ) (row : Row) (mark : Option Reason) : Type 0 where
@@ -16,8 +17,12 @@ pub record IsTurn (tool : Tool) (since : Since) (part : Part) (i : ℕ) (rows : 
   pub in_marks : i < length old
   pub row_is : row ≡ get_or rows i row
   pub mark_is : slice_get current i ≡ Some mark
-  pub current_is : current ≡ take (suc i) old ++ after_from tool since part (suc i == 0) (drop (suc i) rows) (drop (suc i) old)
-  pub counted_is : counted ≡ count tool part.span (drop (suc i) rows) (drop (suc i) old)
+  pub current_is : current ≡ take (suc i) old ++ after_from tool since part (Some row) (drop (suc i) rows) (drop (suc i) old)
+  pub counted_is : counted ≡ count tool part.span (Some row) (drop (suc i) rows) (drop (suc i) old)
+
+-- the row at the place is the last one up to it
+pub row_before : (rows : List Row) (i : ℕ) (row : Row) → i < length rows → row ≡ get_or rows i row → last_of (take (suc i) rows) ≡ Some row
+row_before rows i row lt is = last-take rows i (omega (arith, lt)) ∙ slice_get_read rows (length rows) i row refl lt is
 
 -- no row before those that are marked has another mark yet
 mark_there : (i : ℕ) (old more : List (Option Reason)) (mark : Option Reason) → i < length old → slice_get (take (suc i) old ++ more) i ≡ Some mark → slice_get old i ≡ Some mark
@@ -26,9 +31,9 @@ mark_there zero (m ∷ old) more mark lt h = h
 mark_there (suc i) (m ∷ old) more mark lt h = mark_there i old more mark (omega (arith, lt)) h
 
 -- a row more is marked
-marks_more : (tool : Tool) (since : Since) (part : Part) (b : Bool) (i : ℕ) (rows : List Row) (old : List (Option Reason)) (row d : Row) (mark : Option Reason)
+marks_more : (tool : Tool) (since : Since) (part : Part) (b : Option Row) (i : ℕ) (rows : List Row) (old : List (Option Reason)) (row d : Row) (mark : Option Reason)
     → i < length rows → row ≡ get_or rows i d → slice_get old i ≡ Some mark
-    → set (take (suc i) old ++ after_from tool since part false (drop (suc i) rows) (drop (suc i) old)) i (marked tool since part b (is_newest part.span row (drop (suc i) rows)) (count tool part.span (drop (suc i) rows) (drop (suc i) old)) row mark)
+    → set (take (suc i) old ++ after_from tool since part (Some row) (drop (suc i) rows) (drop (suc i) old)) i (marked tool since part (is_oldest b) (takes tool part.span b row (drop (suc i) rows)) (count tool part.span (Some row) (drop (suc i) rows) (drop (suc i) old)) row mark)
     ≡ take i old ++ after_from tool since part b (drop i rows) (drop i old)
 marks_more tool since part b i [] old row d mark lt hr hm = absurd (omega (arith, lt))
 marks_more tool since part b i (r ∷ rows) [] row d mark lt hr hm = absurd cc
@@ -39,44 +44,40 @@ marks_more tool since part b (suc i) (r ∷ rows) (m ∷ old) row d mark lt hr h
     ap (λ (xs : List (Option Reason)). m ∷ xs) (marks_more tool since part b i rows old row d mark (omega (arith, lt)) hr hm)
 
 -- and counted
-count_more : (tool : Tool) (span : Span) (i : ℕ) (rows : List Row) (old : List (Option Reason)) (row d : Row) (mark : Option Reason)
+count_more : (tool : Tool) (span : Span) (b : Option Row) (i : ℕ) (rows : List Row) (old : List (Option Reason)) (row d : Row) (mark : Option Reason)
     → i < length rows → row ≡ get_or rows i d → slice_get old i ≡ Some mark
-    → count tool span (drop (suc i) rows) (drop (suc i) old) + counts tool (is_newest span row (drop (suc i) rows)) mark ≡ count tool span (drop i rows) (drop i old)
-count_more tool span i [] old row d mark lt hr hm = absurd (omega (arith, lt))
-count_more tool span i (r ∷ rows) [] row d mark lt hr hm = absurd cc
-count_more tool span zero (r ∷ rows) (m ∷ old) row d mark lt hr hm =
+    → count tool span (Some row) (drop (suc i) rows) (drop (suc i) old) + counts tool (takes tool span b row (drop (suc i) rows)) mark ≡ count tool span b (drop i rows) (drop i old)
+count_more tool span b i [] old row d mark lt hr hm = absurd (omega (arith, lt))
+count_more tool span b i (r ∷ rows) [] row d mark lt hr hm = absurd cc
+count_more tool span b zero (r ∷ rows) (m ∷ old) row d mark lt hr hm =
     let other : mark ≡ m = cc in
     rw (hr, other) refl
-count_more tool span (suc i) (r ∷ rows) (m ∷ old) row d mark lt hr hm = count_more tool span i rows old row d mark (omega (arith, lt)) hr hm
-
--- some marks are there yet
-later : (i : ℕ) → (suc i == 0) ≡ false
-later i = ne_eqb (suc i) 0 (λ e. omega (arith, e))
+count_more tool span b (suc i) (r ∷ rows) (m ∷ old) row d mark lt hr hm = count_more tool span b i rows old row d mark (omega (arith, lt)) hr hm
 
 turn_mark : (tool : Tool) (since : Since) (part : Part) (i : ℕ) (rows : List Row) (old current : List (Option Reason)) (counted : ℕ) (row : Row) (mark : Option Reason)
     → IsTurn tool since part i rows old current counted row mark → slice_get old i ≡ Some mark
 turn_mark tool since part i rows old current counted row mark turn =
     mark_there i old _ mark turn.in_marks (subst (λ (xs : List (Option Reason)). slice_get xs i ≡ Some mark) turn.current_is turn.mark_is)
 
-pub marks_step : (tool : Tool) (since : Since) (part : Part) (i : ℕ) (rows newer : List Row) (old current : List (Option Reason)) (counted : ℕ) (row : Row) (mark after : Option Reason) (newest : Bool)
-    → IsTurn tool since part i rows old current counted row mark → newer ≡ drop (suc i) rows → newest ≡ is_newest part.span row newer
-    → after ≡ marked tool since part (i == 0) newest counted row mark
-    → set current i after ≡ take i old ++ after_from tool since part (i == 0) (drop i rows) (drop i old)
-marks_step tool since part i rows newer old current counted row mark after newest turn hn hw ha =
-    rw (ha, hw, hn, turn.counted_is, turn.current_is, later i) (marks_more tool since part (i == 0) i rows old row row mark turn.in_rows turn.row_is (turn_mark tool since part i rows old current counted row mark turn))
+pub marks_step : (tool : Tool) (since : Since) (part : Part) (before : Option Row) (i : ℕ) (rows newer : List Row) (old current : List (Option Reason)) (counted : ℕ) (row : Row) (mark after : Option Reason) (taken : Bool)
+    → IsTurn tool since part i rows old current counted row mark → newer ≡ drop (suc i) rows → taken ≡ takes tool part.span before row newer
+    → after ≡ marked tool since part (is_oldest before) taken counted row mark
+    → set current i after ≡ take i old ++ after_from tool since part before (drop i rows) (drop i old)
+marks_step tool since part before i rows newer old current counted row mark after taken turn hn ht ha =
+    rw (ha, ht, hn, turn.counted_is, turn.current_is) (marks_more tool since part before i rows old row row mark turn.in_rows turn.row_is (turn_mark tool since part i rows old current counted row mark turn))
 
-pub count_step : (tool : Tool) (since : Since) (part : Part) (i : ℕ) (rows newer : List Row) (old current : List (Option Reason)) (counted : ℕ) (row : Row) (mark : Option Reason) (newest : Bool) (more : ℕ)
-    → IsTurn tool since part i rows old current counted row mark → newer ≡ drop (suc i) rows → newest ≡ is_newest part.span row newer
-    → more ≡ counts tool newest mark
-    → counted + more ≡ count tool part.span (drop i rows) (drop i old)
-count_step tool since part i rows newer old current counted row mark newest more turn hn hw hm =
-    rw (hm, hw, hn, turn.counted_is) (count_more tool part.span i rows old row row mark turn.in_rows turn.row_is (turn_mark tool since part i rows old current counted row mark turn))
+pub count_step : (tool : Tool) (since : Since) (part : Part) (before : Option Row) (i : ℕ) (rows newer : List Row) (old current : List (Option Reason)) (counted : ℕ) (row : Row) (mark : Option Reason) (taken : Bool) (more : ℕ)
+    → IsTurn tool since part i rows old current counted row mark → newer ≡ drop (suc i) rows → taken ≡ takes tool part.span before row newer
+    → more ≡ counts tool taken mark
+    → counted + more ≡ count tool part.span before (drop i rows) (drop i old)
+count_step tool since part before i rows newer old current counted row mark taken more turn hn ht hm =
+    rw (hm, ht, hn, turn.counted_is) (count_more tool part.span before i rows old row row mark turn.in_rows turn.row_is (turn_mark tool since part i rows old current counted row mark turn))
 
 -- a row counts for one at most
-pub counts_bound : (tool : Tool) (newest : Bool) (mark : Option Reason) → counts tool newest mark ≤ 1
-counts_bound tool newest mark = grind arith
+pub counts_bound : (tool : Tool) (taken : Bool) (mark : Option Reason) → counts tool taken mark ≤ 1
+counts_bound tool taken mark = grind arith
 
-pub count_bound : (tool : Tool) (span : Span) (rows : List Row) (old : List (Option Reason)) → count tool span rows old ≤ length rows
-count_bound tool span [] old = omega arith
-count_bound tool span (r ∷ rows) [] = omega arith
-count_bound tool span (r ∷ rows) (m ∷ old) = omega (arith, count_bound tool span rows old, counts_bound tool (is_newest span r rows) m)
+pub count_bound : (tool : Tool) (span : Span) (before : Option Row) (rows : List Row) (old : List (Option Reason)) → count tool span before rows old ≤ length rows
+count_bound tool span before [] old = omega arith
+count_bound tool span before (r ∷ rows) [] = omega arith
+count_bound tool span before (r ∷ rows) (m ∷ old) = omega (arith, count_bound tool span (Some r) rows old, counts_bound tool (takes tool span before r rows) m)

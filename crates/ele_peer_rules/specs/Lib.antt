@@ -4,4 +4,5 @@ pub mod Spans
 pub mod Marks
 pub mod Kept
 pub mod Words
+pub mod Kinds
 pub mod Faults

@@ -4,6 +4,7 @@ use Rattle.ele_moment.specs.Day.{IsDay, IsDayNumber}
 use Rattle.ele_peer_rules.specs.declared.row.Offset.{Offset}
 use Rattle.ele_peer_rules.specs.declared.row.Offset.TheVariants.{Ahead, Behind}
 use Rattle.ele_peer_rules.specs.declared.row.Row.{Row}
+use Rattle.ele_peer_rules.specs.declared.span.Span.{Span}
 
 -- at the moment a clock of that offset shows the seconds since 1970 began on it
 abbrev pub IsShown : ℕ → Offset → ℕ → Type 0
@@ -19,8 +20,9 @@ pub record IsMonth (day_number month : ℕ) : Type 0 where
   pub number : IsDayNumber year place day day_number
   pub month_is : month + 23641 ≡ 12 * year + place
 
--- the row of a backup that was made at the moment, by a clock with the offset
-pub record IsRow (m : ℕ) (offset : Offset) (row : Row) : Type 0 where
+-- the row of a backup that was made at the moment, by a clock with the offset, and of that kind
+pub record IsRow (m : ℕ) (offset : Offset) (kind : Span) (row : Row) : Type 0 where
   pub moment : row.moment ≡ m
   pub local : IsShown m offset row.local
   pub month : IsMonth (row.local / 86400) row.month
+  pub kind_is : row.kind ≡ kind

@@ -9,7 +9,7 @@ use Rattle.ele_peer_rules.specs.declared.limit.Limit.TheVariants.{Number, All, W
 use Rattle.ele_peer_rules.specs.declared.limit.Reach.{Reach}
 use Rattle.ele_peer_rules.specs.declared.part.Part.{Part}
 use Rattle.ele_peer_rules.specs.declared.part.Tool.{Tool}
-use Rattle.ele_peer_rules.specs.declared.part.Tool.TheVariants.{Restic, OldRestic, Borg}
+use Rattle.ele_peer_rules.specs.declared.part.Tool.TheVariants.{Restic, OldRestic, Borg, Snapper, Sanoid}
 use Rattle.ele_peer_rules.specs.declared.names.Slot.{Slot}
 use Rattle.ele_peer_rules.specs.declared.span.Span.TheVariants.{Each, Second, Minute, Hour, Day, Week, Month, Year}
 use Rattle.ele_peer_rules.specs.Kept.{rank_of}
@@ -20,9 +20,13 @@ is_mark mark byte = byte == mark
 
 abbrev pub tool_of : List ℕ → Option Tool
 tool_of name =
-    if bytes_eq name (codes "restic") then Some Restic else (if bytes_eq name (codes "restic-0.15") then Some OldRestic else (if bytes_eq name (codes "borg") then Some Borg else None))
+    if bytes_eq name (codes "restic") then Some Restic
+    else (if bytes_eq name (codes "restic-0.15") then Some OldRestic
+    else (if bytes_eq name (codes "borg") then Some Borg
+    else (if bytes_eq name (codes "snapper") then Some Snapper
+    else (if bytes_eq name (codes "sanoid") then Some Sanoid else None))))
 
--- options of both tools
+-- options of restic and borg
 abbrev pub shared_slot : List ℕ → Option Slot
 shared_slot name =
     if bytes_eq name (codes "keep-within") then Some (record { span = Each; within = true })
@@ -48,23 +52,56 @@ borg_slot name =
     else (if bytes_eq name (codes "keep-secondly") then Some (record { span = Second; within = false })
     else (if bytes_eq name (codes "keep-minutely") then Some (record { span = Minute; within = false }) else None))
 
-abbrev pub own_slot : Tool → List ℕ → Option Slot
-own_slot Restic name = restic_slot name
-own_slot OldRestic name = restic_slot name
-own_slot Borg name = borg_slot name
+abbrev pub snapper_slot : List ℕ → Option Slot
+snapper_slot name =
+    if bytes_eq name (codes "TIMELINE_MIN_AGE") then Some (record { span = Each; within = true })
+    else (if bytes_eq name (codes "TIMELINE_LIMIT_HOURLY") then Some (record { span = Hour; within = false })
+    else (if bytes_eq name (codes "TIMELINE_LIMIT_DAILY") then Some (record { span = Day; within = false })
+    else (if bytes_eq name (codes "TIMELINE_LIMIT_WEEKLY") then Some (record { span = Week; within = false })
+    else (if bytes_eq name (codes "TIMELINE_LIMIT_MONTHLY") then Some (record { span = Month; within = false })
+    else (if bytes_eq name (codes "TIMELINE_LIMIT_YEARLY") then Some (record { span = Year; within = false }) else None)))))
+
+abbrev pub sanoid_slot : List ℕ → Option Slot
+sanoid_slot name =
+    if bytes_eq name (codes "frequently") then Some (record { span = Minute; within = false })
+    else (if bytes_eq name (codes "hourly") then Some (record { span = Hour; within = false })
+    else (if bytes_eq name (codes "daily") then Some (record { span = Day; within = false })
+    else (if bytes_eq name (codes "weekly") then Some (record { span = Week; within = false })
+    else (if bytes_eq name (codes "monthly") then Some (record { span = Month; within = false })
+    else (if bytes_eq name (codes "yearly") then Some (record { span = Year; within = false }) else None)))))
 
 -- the spans that an option of the tool is about, and whether its value is a length of time
 abbrev pub slot_of : Tool → List ℕ → Option Slot
-slot_of tool name = option_or (shared_slot name) (own_slot tool name)
+slot_of Restic name = option_or (shared_slot name) (restic_slot name)
+slot_of OldRestic name = option_or (shared_slot name) (restic_slot name)
+slot_of Borg name = option_or (shared_slot name) (borg_slot name)
+slot_of Snapper name = snapper_slot name
+slot_of Sanoid name = sanoid_slot name
 
 -- the value for all rows
 abbrev pub is_all : List ℕ → Bool
 is_all text = bytes_eq text (codes "unlimited") || bytes_eq text (codes "-1")
 
+-- which snapper and sanoid haven't
+abbrev pub means_all : Tool → List ℕ → Bool
+means_all Restic text = is_all text
+means_all OldRestic text = is_all text
+means_all Borg text = is_all text
+means_all Snapper text = false
+means_all Sanoid text = false
+
 -- a number from 1 on
 pub record SpellsSome (text : List ℕ) (n : ℕ) : Type 0 where
   pub number : SpellsNumber text n
   pub some : 0 < n
+
+-- how many rows are kept, which snapper and sanoid may set to 0
+abbrev pub SpellsRows : Tool → List ℕ → ℕ → Type 0
+SpellsRows Restic text n = SpellsSome text n
+SpellsRows OldRestic text n = SpellsSome text n
+SpellsRows Borg text n = SpellsSome text n
+SpellsRows Snapper text n = SpellsNumber text n
+SpellsRows Sanoid text n = SpellsNumber text n
 
 -- the number before a letter, and the rest behind it, or 0 where the letter isn't there
 abbrev pub SpellsCount : Bool → ℕ → List ℕ → ℕ → List ℕ → Type 0
@@ -111,18 +148,25 @@ pub record SpellsBorg (word : List ℕ) (reach : Reach) : Type 0 where
   pub worth : reach.seconds ≡ count * unit
   pub fits : reach.seconds < 2 ^ 64
 
+-- snapper's length of time: a number of seconds
+pub record SpellsSeconds (word : List ℕ) (reach : Reach) : Type 0 where
+  pub months : reach.months ≡ 0
+  pub seconds : SpellsNumber word reach.seconds
+
 abbrev pub SpellsReach : Tool → List ℕ → Reach → Type 0
 SpellsReach Restic word reach = SpellsRestic word reach
 SpellsReach OldRestic word reach = SpellsRestic word reach
 SpellsReach Borg word reach = SpellsBorg word reach
+SpellsReach Snapper word reach = SpellsSeconds word reach
+SpellsReach Sanoid word reach = ⊥
 
 -- the value of an option: a length of time, or how many rows
 abbrev pub SpellsLimit : Tool → Bool → List ℕ → Limit → Type 0
 SpellsLimit tool true text (Number n) = ⊥
 SpellsLimit tool true text All = ⊥
 SpellsLimit tool true text (Within reach) = SpellsReach tool text reach
-SpellsLimit tool false text (Number n) = (is_all text ≡ false) × SpellsSome text n
-SpellsLimit tool false text All = is_all text ≡ true
+SpellsLimit tool false text (Number n) = (means_all tool text ≡ false) × SpellsRows tool text n
+SpellsLimit tool false text All = means_all tool text ≡ true
 SpellsLimit tool false text (Within reach) = ⊥
 
 -- an option of the tool, an equals sign (61) and its value

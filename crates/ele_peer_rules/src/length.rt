@@ -3,7 +3,7 @@ ghost use Rattle.std.specs.Prelude.{◌≡◌, ◌*◌, ◌<◌, ◌^◌, ℕ, L
 ghost use Rattle.std.specs.Option.{option_map};
 ghost use Rattle.ele_moment.specs.Number.{SpellsNumber};
 ghost use Rattle.ele_peer_rules.specs.declared.limit.Reach.{Reach};
-ghost use Rattle.ele_peer_rules.specs.Words.{SpellsBorg, SpellsReach, SpellsRestic, SpellsSome, SpellsUnit, borg_unit};
+ghost use Rattle.ele_peer_rules.specs.Words.{SpellsBorg, SpellsReach, SpellsRestic, SpellsRows, SpellsSeconds, SpellsSome, SpellsUnit, borg_unit};
 
 use crate::cut::cut_at;
 use crate::limit::Reach;
@@ -18,11 +18,24 @@ pub(crate) fn read_reach(tool: Tool, word: &[u8]) -> Option<Reach>
     match tool {
         Tool::Restic | Tool::OldRestic => read_restic(word),
         Tool::Borg => read_borg(word),
+        Tool::Snapper => read_seconds(word),
+        Tool::Sanoid => None,
     }
 }
 
-/// The number from 1 on that a word spells.
-pub(crate) fn read_some(word: &[u8]) -> Option<u64>
+/// How many rows a word lets the tool keep. Only a snapshot tool's number may be 0.
+pub(crate) fn read_rows(tool: Tool, word: &[u8]) -> Option<u64>
+    ensures found { IfSome result (SpellsRows tool word.now) }
+    ensures only { (n : ℕ) → SpellsRows tool word.now n → result ≡ Some n }
+{
+    match tool {
+        Tool::Restic | Tool::OldRestic | Tool::Borg => read_some(word),
+        Tool::Snapper | Tool::Sanoid => read_number(word),
+    }
+}
+
+// The number from 1 on that a word spells.
+fn read_some(word: &[u8]) -> Option<u64>
     ensures found { IfSome result (SpellsSome word.now) }
     ensures only { (n : ℕ) → SpellsSome word.now n → result ≡ Some n }
 {
@@ -67,6 +80,17 @@ fn take_unit(letter: u8, word: &[u8]) -> Option<(u64, &[u8])>
         return None;
     };
     Some((number, rest))
+}
+
+// A number of seconds.
+fn read_seconds(word: &[u8]) -> Option<Reach>
+    ensures found { IfSome result (SpellsSeconds word.now) }
+    ensures only { (reach : Reach) → SpellsSeconds word.now reach → result ≡ Some reach }
+{
+    let Some(seconds) = read_number(word) else {
+        return None;
+    };
+    Some(Reach { months: 0, seconds })
 }
 
 // A number of one unit.

@@ -4,6 +4,7 @@
 
 mod calendar;
 mod cut;
+mod kind;
 mod length;
 mod limit;
 mod marking;
@@ -16,6 +17,7 @@ mod rule;
 mod span;
 
 pub use calendar::Month;
+pub use kind::kind_of;
 pub use limit::{Limit, Reach};
 pub use part::{Part, Tool};
 pub use reading::{RuleFault, Wrong, read_rule};

@@ -1,6 +1,6 @@
 //! Names of tools and of their options. A contract sees a name as its bytes.
 ghost use Rattle.std.specs.Prelude.{◌≡◌};
-ghost use Rattle.ele_peer_rules.specs.Words.{borg_slot, own_slot, restic_slot, shared_slot, slot_of, tool_of};
+ghost use Rattle.ele_peer_rules.specs.Words.{borg_slot, restic_slot, sanoid_slot, shared_slot, slot_of, snapper_slot, tool_of};
 
 use crate::part::Tool;
 use crate::span::Span;
@@ -22,6 +22,10 @@ pub(crate) fn tool_of(name: &[u8]) -> Option<Tool>
         Some(Tool::OldRestic)
     } else if name == b"borg".as_slice() {
         Some(Tool::Borg)
+    } else if name == b"snapper".as_slice() {
+        Some(Tool::Snapper)
+    } else if name == b"sanoid".as_slice() {
+        Some(Tool::Sanoid)
     } else {
         None
     }
@@ -31,23 +35,15 @@ pub(crate) fn tool_of(name: &[u8]) -> Option<Tool>
 pub(crate) fn slot_of(tool: Tool, name: &[u8]) -> Option<Slot>
     ensures { result ≡ slot_of tool name.now }
 {
-    match shared_slot(name) {
-        Some(slot) => Some(slot),
-        None => own_slot(tool, name),
-    }
-}
-
-// An option of this tool alone.
-fn own_slot(tool: Tool, name: &[u8]) -> Option<Slot>
-    ensures { result ≡ own_slot tool name.now }
-{
     match tool {
-        Tool::Restic | Tool::OldRestic => restic_slot(name),
-        Tool::Borg => borg_slot(name),
+        Tool::Restic | Tool::OldRestic => shared_slot(name).or(restic_slot(name)),
+        Tool::Borg => shared_slot(name).or(borg_slot(name)),
+        Tool::Snapper => snapper_slot(name),
+        Tool::Sanoid => sanoid_slot(name),
     }
 }
 
-// An option of both tools.
+// An option of restic and borg.
 fn shared_slot(name: &[u8]) -> Option<Slot>
     ensures { result ≡ shared_slot name.now }
 {
@@ -97,6 +93,48 @@ fn borg_slot(name: &[u8]) -> Option<Slot>
         Some(about(Span::Second, false))
     } else if name == b"keep-minutely".as_slice() {
         Some(about(Span::Minute, false))
+    } else {
+        None
+    }
+}
+
+// An option of snapper.
+fn snapper_slot(name: &[u8]) -> Option<Slot>
+    ensures { result ≡ snapper_slot name.now }
+{
+    if name == b"TIMELINE_MIN_AGE".as_slice() {
+        Some(about(Span::Each, true))
+    } else if name == b"TIMELINE_LIMIT_HOURLY".as_slice() {
+        Some(about(Span::Hour, false))
+    } else if name == b"TIMELINE_LIMIT_DAILY".as_slice() {
+        Some(about(Span::Day, false))
+    } else if name == b"TIMELINE_LIMIT_WEEKLY".as_slice() {
+        Some(about(Span::Week, false))
+    } else if name == b"TIMELINE_LIMIT_MONTHLY".as_slice() {
+        Some(about(Span::Month, false))
+    } else if name == b"TIMELINE_LIMIT_YEARLY".as_slice() {
+        Some(about(Span::Year, false))
+    } else {
+        None
+    }
+}
+
+// An option of sanoid.
+fn sanoid_slot(name: &[u8]) -> Option<Slot>
+    ensures { result ≡ sanoid_slot name.now }
+{
+    if name == b"frequently".as_slice() {
+        Some(about(Span::Minute, false))
+    } else if name == b"hourly".as_slice() {
+        Some(about(Span::Hour, false))
+    } else if name == b"daily".as_slice() {
+        Some(about(Span::Day, false))
+    } else if name == b"weekly".as_slice() {
+        Some(about(Span::Week, false))
+    } else if name == b"monthly".as_slice() {
+        Some(about(Span::Month, false))
+    } else if name == b"yearly".as_slice() {
+        Some(about(Span::Year, false))
     } else {
         None
     }

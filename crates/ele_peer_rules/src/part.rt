@@ -15,9 +15,13 @@ pub enum Tool {
     OldRestic,
     /// borg 1.
     Borg,
+    /// The timeline of snapper.
+    Snapper,
+    /// sanoid, which tells the kind of a snapshot by its name.
+    Sanoid,
 }
 
-/// Keeps the newest row of each span, within a limit.
+/// Keeps a row of each span, within a limit: the newest one, or the one that its tool takes.
 #[derive(Clone, Copy, Default)]
 pub struct Part {
     pub span: Span,
@@ -30,7 +34,7 @@ impl Tool {
         ensures { result ≡ counts_kept self }
     {
         match self {
-            Tool::Restic | Tool::OldRestic => true,
+            Tool::Restic | Tool::OldRestic | Tool::Snapper | Tool::Sanoid => true,
             Tool::Borg => false,
         }
     }
@@ -41,7 +45,7 @@ impl Tool {
     {
         match self {
             Tool::Restic => true,
-            Tool::OldRestic => false,
+            Tool::OldRestic | Tool::Snapper | Tool::Sanoid => false,
             Tool::Borg => matches!(limit, Limit::Number(_)),
         }
     }

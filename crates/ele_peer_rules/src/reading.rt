@@ -3,12 +3,12 @@ ghost use Rattle.std.specs.Prelude.{◌≡◌, List, Ok, Some, IfOk, IfErr, IfSo
 ghost use Rattle.ele_peer_rules.specs.declared.limit.Limit.{Limit};
 ghost use Rattle.ele_peer_rules.specs.declared.part.Part.{Part};
 ghost use Rattle.ele_peer_rules.specs.declared.part.Tool.{Tool};
-ghost use Rattle.ele_peer_rules.specs.Words.{MeansRule, SpellsLimit, SpellsPart, SpellsParts, has_rank, is_all, is_mark};
+ghost use Rattle.ele_peer_rules.specs.Words.{MeansRule, SpellsLimit, SpellsPart, SpellsParts, has_rank, is_all, is_mark, means_all};
 ghost use Rattle.ele_peer_rules.specs.Faults.{IsFault, IsFirstWrong, wrong_of};
 ghost use Rattle.std.specs.List.{slice_split};
 
 use crate::cut::cut_at;
-use crate::length::{read_reach, read_some};
+use crate::length::{read_reach, read_rows};
 use crate::limit::Limit;
 use crate::names::{slot_of, tool_of};
 use crate::part::{Part, Tool};
@@ -23,7 +23,7 @@ pub enum Wrong {
     #[error("a rule is a tool, a colon and options, as restic:keep-daily=7")]
     NoTool,
     /// The tool has no rules here.
-    #[error("a rule's tool is restic, restic-0.15 or borg")]
+    #[error("a rule's tool is restic, restic-0.15, borg, snapper or sanoid")]
     UnknownTool,
     /// The option has no equals sign.
     #[error("an option is its name, an equals sign and a value, as keep-daily=7")]
@@ -31,11 +31,11 @@ pub enum Wrong {
     /// The tool hasn't this option.
     #[error("the tool has no such option")]
     UnknownOption,
-    /// The value isn't a number from 1 on, `unlimited` or `-1`.
-    #[error("a number of backups is from 1 on, or unlimited")]
+    /// The value isn't a number from 1 on, `unlimited` or `-1`, or to snapper and sanoid a number.
+    #[error("a number of backups is from 1 on, or unlimited, and one of snapshots is from 0 on")]
     BadNumber,
     /// The value isn't a length of time as the tool writes it.
-    #[error("a length of time is as 1y5m7d2h to restic, and as 30d to borg")]
+    #[error("a length of time is as 1y5m7d2h to restic, as 30d to borg, and in seconds to snapper")]
     BadLength,
     /// An option before says the same.
     #[error("an option before says the same")]
@@ -51,8 +51,8 @@ pub struct RuleFault {
 }
 
 /// Returns the rule that a word means, as `restic:keep-last=3,keep-within=1m`: a tool's name, a colon, and options of the
-/// tool with a comma between each two. The tools are `restic`, `restic-0.15`, which is each version up to that one, and
-/// `borg`. `RuleFault` for every other word, with its first fault. It takes no memory.
+/// tool with a comma between each two. The tools are `restic`, `restic-0.15`, which is each version up to that one,
+/// `borg`, `snapper` and `sanoid`. `RuleFault` for every other word, with its first fault. It takes no memory.
 pub fn read_rule(word: &[u8]) -> Result<PeerRule, RuleFault>
     ensures found { IfOk result (λ rule. MeansRule word.now rule.tool rule.parts.items) }
     ensures none { IfErr result (λ fault. (tool : Tool) (parts : List Part)
@@ -148,7 +148,7 @@ fn read_limit(tool: Tool, within: bool, text: &[u8]) -> Option<Limit>
     if within {
         return within_limit(tool, text);
     }
-    if is_all(text) {
+    if means_all(tool, text) {
         return Some(Limit::All);
     }
     number_limit(tool, text)
@@ -167,17 +167,27 @@ fn within_limit(tool: Tool, text: &[u8]) -> Option<Limit>
 
 // A number as a limit, which the word for all isn't.
 fn number_limit(tool: Tool, text: &[u8]) -> Option<Limit>
-    requires { is_all text.now ≡ false }
+    requires { means_all tool text.now ≡ false }
     ensures found { IfSome result (SpellsLimit tool false text.now) }
     ensures only { (limit : Limit) → SpellsLimit tool false text.now limit → result ≡ Some limit }
 {
-    match read_some(text) {
+    match read_rows(tool, text) {
         Some(number) => Some(Limit::Number(number)),
         None => None,
     }
 }
 
-// Whether the value means all rows.
+// Whether the value means all rows to the tool.
+fn means_all(tool: Tool, text: &[u8]) -> bool
+    ensures { result ≡ means_all tool text.now }
+{
+    match tool {
+        Tool::Restic | Tool::OldRestic | Tool::Borg => is_all(text),
+        Tool::Snapper | Tool::Sanoid => false,
+    }
+}
+
+// Whether the value is a word for all rows.
 fn is_all(text: &[u8]) -> bool
     ensures { result ≡ is_all text.now }
 {

@@ -1,15 +1,16 @@
 //! Rules of other tools. A contract sees a rule as its tool and its parts.
 ghost use Rattle.std.specs.Prelude.{◌≡◌, ◌<◌, ◌^◌, ◌==◌, length, IfOk, if◌then◌else◌};
-ghost use Rattle.ele_peer_rules.specs.Kept.{after_rank, kept_by, of_newest, rank_of, since_of};
+ghost use Rattle.ele_peer_rules.specs.Kept.{after_others, after_rank, kept_by, of_newest, of_now, rank_of, since_of};
 ghost use Rattle.ele_lists.specs.Ends.{last_of};
 ghost use Rattle.ele_peer_rules.specs.Marks.{after_part};
 
 use crate::calendar::Month;
-use crate::limit::Since;
+use crate::limit::{Limit, Since};
 use crate::marking::mark_part;
 use crate::part::{Part, Tool};
 use crate::reason::Reason;
 use crate::row::Row;
+use crate::span::Span;
 use arrayvec::ArrayVec;
 use ele_moment::{Moment, NoMemory};
 use std::alloc::Global;
@@ -38,10 +39,29 @@ impl PeerRule {
     {
         let since = since_of(self.tool, now, rows);
         let mut marks = vec![in alloc; None; rows.len()]?;
+        mark_others(self.tool, &since, rows, marks.as_mut_slice());
         for rank in 0..16 {
             mark_rank(self, rank, &since, rows, marks.as_mut_slice());
         }
         Ok(marks)
+    }
+}
+
+// Marks the rows that the tool never removes.
+fn mark_others(tool: Tool, since: &Since, rows: &[Row], marks: &mut [Option<Reason>])
+    requires same { length rows.now ≡ length marks.old }
+    requires fits { length rows.now < 2 ^ 60 }
+    ensures { marks.new ≡ after_others tool since.now rows.now marks.old }
+{
+    match tool {
+        Tool::Restic | Tool::OldRestic | Tool::Borg | Tool::Snapper => {}
+        Tool::Sanoid => {
+            let others = Part {
+                span: Span::Each,
+                limit: Limit::All,
+            };
+            mark_part(tool, since, others, rows, marks);
+        }
     }
 }
 
@@ -81,10 +101,16 @@ fn since_of(tool: Tool, now: Moment, rows: &[Row]) -> Since
 {
     match tool {
         Tool::Restic | Tool::OldRestic => of_newest(rows),
-        Tool::Borg => Since {
-            moment: now,
-            month: Month::FIRST,
-        },
+        Tool::Borg | Tool::Snapper | Tool::Sanoid => of_now(now),
+    }
+}
+
+fn of_now(now: Moment) -> Since
+    ensures { result ≡ of_now now }
+{
+    Since {
+        moment: now,
+        month: Month::FIRST,
     }
 }
 

@@ -1,11 +1,11 @@
 //! Spans of time by a clock. A contract sees a span as plain data.
 ghost use Rattle.std.specs.Prelude.{◌≡◌};
-ghost use Rattle.ele_peer_rules.specs.Spans.{is_newest, same_span};
+ghost use Rattle.ele_lists.specs.Ends.{last_of};
+ghost use Rattle.ele_peer_rules.specs.Spans.{is_first, is_newest, is_of, same_span};
 
 use crate::row::Row;
 
-/// Spans of time, of each of which a part of a rule keeps the newest row. Weeks begin on Monday. `Each` is a span for
-/// each row.
+/// Spans of time, of each of which a part of a rule takes a row. Weeks begin on Monday. `Each` is a span for each row.
 #[derive(Clone, Copy, Default)]
 pub enum Span {
     #[default]
@@ -45,5 +45,23 @@ impl Span {
             [next, ..] => !self.is_one(row, next),
             [] => true,
         }
+    }
+
+    /// Whether the row is the first of its span: the row before it, if there is one, lies in another.
+    #[tactic(auto, using(crate::proofs::Newest::newest_is))]
+    pub(crate) fn is_first(self, older: &[Row], row: &Row) -> bool
+        ensures { result ≡ is_first self (last_of older.now) row.now }
+    {
+        match older.last() {
+            Some(before) => !self.is_one(before, row),
+            None => true,
+        }
+    }
+
+    /// Whether the row's name tells the span.
+    pub(crate) fn is_of(self, row: &Row) -> bool
+        ensures { result ≡ is_of self row.now }
+    {
+        row.kind as u8 == self as u8
     }
 }

@@ -1,7 +1,7 @@
 -- By which part of a rule a version is kept, in words.
 use Rattle.std.specs.Prelude.{ℕ, List, ◌∷◌, ◌++◌, codes, decimal}
 use Rattle.ele_peer_rules.specs.declared.reason.By.{By}
-use Rattle.ele_peer_rules.specs.declared.reason.By.TheVariants.{Count, Age, Oldest}
+use Rattle.ele_peer_rules.specs.declared.reason.By.TheVariants.{Count, Age, Oldest, Other}
 use Rattle.ele_peer_rules.specs.declared.reason.Reason.{Reason}
 use Rattle.ele_peer_rules.specs.declared.span.Span.{Span}
 use Rattle.ele_peer_rules.specs.declared.span.Span.TheVariants.{Each, Second, Minute, Hour, Day, Week, Month, Year}
@@ -36,6 +36,7 @@ abbrev pub name_text : Span → By → List ℕ
 name_text span Count = span_word span
 name_text span Age = within_word span
 name_text span Oldest = oldest_text span
+name_text span Other = codes "other"
 
 -- the part, a mark, and as which of the versions that the part counts, from 1 for the newest
 abbrev pub reason_text : ℕ → Reason → List ℕ

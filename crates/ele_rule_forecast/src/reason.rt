@@ -24,6 +24,7 @@ fn put_name<W: Write>(span: Span, by: By, printer: &mut Printer<'_, W>)
         By::Count => printer.put(span_word(span)),
         By::Age => printer.put(within_word(span)),
         By::Oldest => put_oldest(span, printer),
+        By::Other => printer.put(b"other"),
     }
 }
 
