@@ -10,7 +10,7 @@ from __future__ import annotations
 import re
 from typing import Optional
 
-from .. import ElephantError, Limits, Removal, Store
+from .. import ElephantError, Limits, Refused, Removal, Store, VersionStory
 from .store import MountStore
 
 # Lines of a store with a history.
@@ -53,6 +53,17 @@ class Audit:
         """Returns the removed versions of a file, with the causes. Without a history it returns none."""
         rows = self._asked().gone().removals if self.is_kept else ()
         return {it.number: it for it in rows if it.file == file}
+
+    def story(self, path: bytes, file: int) -> dict[int, VersionStory]:
+        """Returns what the history tells of a file that has the path, or had it last: its versions by number. Without a history, or if
+        the path leads to another file, it returns none."""
+        if not self.is_kept:
+            return {}
+        try:
+            found = self._asked().story(path)
+        except Refused:
+            return {}
+        return {it.number: it for it in found.versions} if found.file == file else {}
 
     def close(self) -> None:
         """Frees the memory."""
