@@ -5,7 +5,9 @@
 mod log;
 mod meter;
 mod row;
+mod row_moment;
 
 pub use log::InodeLog;
 pub use meter::Meter;
 pub use row::VersionRow;
+pub use row_moment::RowMoment;
