@@ -26,7 +26,7 @@ pub record Rowed (before after : Outlet) (above line : List ℕ) (entries left :
 pub rowed_none : (a : Outlet) (above : List ℕ) (entries : List Entry) → Rowed a a above above entries entries
 rowed_none a above entries = record { rows = []; ends = λ more are. are; line_is = refl; puts = puts_nil a }
 
-one_more : (above : List ℕ) (rows : List (List ℕ)) (line row : List ℕ) → line ≡ last_hash above rows → chained above rows ++ (row ++ hash_line (line ++ row)) ≡ chained above (rows ++ row ∷ [])
+pub one_more : (above : List ℕ) (rows : List (List ℕ)) (line row : List ℕ) → line ≡ last_hash above rows → chained above rows ++ (row ++ hash_line (line ++ row)) ≡ chained above (rows ++ row ∷ [])
 one_more above rows line row is =
     ap (λ (last : List ℕ). chained above rows ++ (row ++ hash_line (last ++ row))) is
     ∙ (ap (λ (text : List ℕ). chained above rows ++ (row ++ text)) (sym (append-nil (hash_line (last_hash above rows ++ row))))
@@ -66,7 +66,7 @@ one_reply (Now moment) s t a b =
     a.2 ∙ ap (λ (stamp : List ℕ). line_text (codes "ok now" ∷ decimal moment ∷ stamp ∷ [])) (one_text a.0 b.0 moment a.1 b.1) ∙ sym b.2
 one_reply reply s t a b = a ∙ sym b
 
-one_row : (entry : Entry) (a b : List ℕ) → IsRow entry a → IsRow entry b → a ≡ b
+pub one_row : (entry : Entry) (a b : List ℕ) → IsRow entry a → IsRow entry b → a ≡ b
 one_row entry a b x y = x.2 ∙ ap (λ (reply : List ℕ). entry_line entry ++ reply) (one_reply entry.reply x.0 y.0 x.1 y.1) ∙ sym y.2
 
 both_heads : (a b : List ℕ) (us vs : List (List ℕ)) → a ≡ b → us ≡ vs → a ∷ us ≡ b ∷ vs

@@ -2,7 +2,11 @@
 //! text as its bytes, and a history as its entries.
 #![tactic(auto)]
 
+mod checking;
 mod row;
 mod text;
+mod verdict;
 
-pub use text::{is_evidence, put_evidence};
+pub use checking::{line_of, verify};
+pub use text::{evidence, is_evidence, put_evidence};
+pub use verdict::{Fault, Verdict};

@@ -1,6 +1,6 @@
 //! The rows of a text. A contract sees a row as its bytes.
 ghost use Rattle.std.specs.Prelude.{◌≡◌, ◌++◌, IfOk, List, ℕ};
-ghost use Rattle.ele_evidence.specs.EvidenceText.{IsRow, head_row};
+ghost use Rattle.ele_evidence.specs.EvidenceText.{IsRow, end_line, head_row};
 ghost use Rattle.ele_output.specs.Prints.{Prints};
 ghost use Rattle.ele_printer.specs.HistoryText.{entry_line};
 ghost use Rattle.ele_printer.specs.Printed.{IsReplyText};
@@ -64,4 +64,17 @@ fn put_entry<W: Write>(entry: &Entry, printer: &mut Printer<'_, W>)
     printer.put(b"- ");
     put_event_line(&entry.event, printer);
     put_answer(&entry.reply, printer);
+}
+
+/// Returns the last line of a text with so many entries. `NoMemory` if memory is refused.
+pub(crate) fn end_line(alloc: Global, count: u64) -> Result<Vec<u8>, NoMemory>
+    ensures { IfOk result (λ line. line.items ≡ end_line count) }
+{
+    let mut line = Vec::new(alloc);
+    let mut printer = Printer::new(&mut line);
+    put_line_of(b"end", &[Number(count)], &mut printer);
+    match printer.hand_over() {
+        Ok(()) => Ok(line),
+        Err(_) => Err(NoMemory),
+    }
 }

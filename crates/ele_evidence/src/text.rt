@@ -81,8 +81,12 @@ pub fn is_evidence(
     Ok(evidence(alloc, limits, entries)?.as_slice() == text)
 }
 
-// The evidence of a history.
-fn evidence(alloc: Global, limits: &Limits, entries: &[Entry]) -> Result<Vec<u8>, NoMemory>
+/// Returns the evidence of a history that began in the fresh world with these limits, and has these
+/// entries.
+///
+/// `NoMemory` if memory is refused.
+/// Cost: grows with the evidence.
+pub fn evidence(alloc: Global, limits: &Limits, entries: &[Entry]) -> Result<Vec<u8>, NoMemory>
     ensures { IfOk result (λ text. IsEvidence limits.now entries.now text.items) }
 {
     let mut text = Vec::new(alloc);
