@@ -1,5 +1,5 @@
 -- Which forecast the matches of `forecast` ask for.
-use Rattle.std.specs.Prelude.{◌≡◌, ◌+◌, ◌<◌, ◌≤◌, ◌==◌, ◌&&◌, ◌||◌, if◌then◌else◌, nat_lt, not, MatchOption, ℕ, Bool, true, false, List, [], Ok, Err, Option, Some, None, length, unwrap_or, codes}
+use Rattle.std.specs.Prelude.{◌≡◌, ◌+◌, ◌<◌, ◌≤◌, ◌==◌, ◌&&◌, ◌||◌, if◌then◌else◌, MatchOption, ℕ, Bool, true, false, List, [], Ok, Err, Option, Some, None, length, unwrap_or, codes}
 use Rattle.std.specs.Int.{from_bool}
 use Rattle.std.specs.List.{All, AllZip, Any}
 use Rattle.ele_outlook.specs.declared.options.Form.{Form}
@@ -16,7 +16,6 @@ use Rattle.ele_tool_words.specs.Time.{SpellsTime}
 use Rattle.ele_tool_words.specs.Zone.{SpellsZone}
 use Rattle.ele_tool_words.specs.declared.zone.Offset.{Offset}
 use Rattle.ele_tool_words.specs.declared.zone.Offset.TheVariants.{Ahead}
-use Rattle.ele_typed_words.specs.When.{SpellsWhen}
 use Rattle.ele_invocation.specs.Matches.{is_given, is_on, values_of}
 use Rattle.clap.specs.Words.{Row, Text, all_of, first_of}
 
@@ -49,13 +48,12 @@ pub record IsForm (rows : List Row) (form : Form) : Type 0 where
       (λ word. IsOverTime word form))
       (λ word. IsList word form)
 
--- a list is of one policy at one moment, and a table over time has moments of its own; in CSV only rules are about moments
-abbrev pub suits : Form → ℕ → ℕ → ℕ → Bool
-suits Due policies moments rules = (policies == 1) && (moments == 1)
-suits Kept policies moments rules = (policies == 1) && (moments == 1)
-suits (Every step) policies moments rules = moments == 0
-suits Csv policies moments rules = (moments == 0) || nat_lt 0 rules
-suits form policies moments rules = true
+-- a list is of one policy at one moment, and a table over time has moments of its own
+abbrev pub suits : Form → ℕ → ℕ → Bool
+suits Due policies moments = (policies == 1) && (moments == 1)
+suits Kept policies moments = (policies == 1) && (moments == 1)
+suits (Every step) policies moments = moments == 0
+suits form policies moments = true
 
 -- a script reads a policy in the word too, or refuses the word
 abbrev pub IsPlain : Text → Type 0
@@ -63,30 +61,6 @@ IsPlain word = (policy : Policy) × ReadsPolicy word (Ok policy)
 
 abbrev pub IsForeign : Text → Type 0
 IsForeign word = (fault : LineFault) × ReadsPolicy word (Err fault)
-
--- the word spells the moment, if a clock shows now or nothing
-abbrev pub SpellsAt : Option ℕ → Text → ℕ → Type 0
-SpellsAt None word m = SpellsTime word m
-SpellsAt (Some now) word m = SpellsWhen now word m
-
--- a drawing and a table over time have no place for labels
-abbrev pub takes_labels : Form → Bool
-takes_labels Drawing = false
-takes_labels (Every step) = false
-takes_labels form = true
-
--- nor for sizes, and neither has a list
-abbrev pub takes_sizes : Form → Bool
-takes_sizes Drawing = false
-takes_sizes (Every step) = false
-takes_sizes Due = false
-takes_sizes Kept = false
-takes_sizes form = true
-
--- only a drawing has a title
-abbrev pub takes_title : Form → Bool
-takes_title Drawing = true
-takes_title form = false
 
 -- rules of other tools are for tables, JSON and CSV
 abbrev pub takes_rules : Form → Bool
@@ -97,20 +71,6 @@ takes_rules Drawing = false
 takes_rules Due = false
 takes_rules Kept = false
 takes_rules (Every step) = false
-
--- an option that is given is one that the form takes
-abbrev pub fits : Bool → Bool → Bool
-fits taken given = taken || not given
-
--- no file is given, and the form takes so many policies, moments and rules, and each option that is given
-pub record Fits (rows : List Row) (form : Form) (policies moments rules : ℕ) : Type 0 where
-  pub no_file : first_of (codes "file") rows ≡ None
-  pub few : policies ≤ 16
-  pub suited : suits form policies moments rules ≡ true
-  pub ruled : (takes_rules form || (rules == 0)) ≡ true
-  pub labelled : fits (takes_labels form) (is_on (codes "labels") rows) ≡ true
-  pub sized : fits (takes_sizes form) (is_on (codes "sizes") rows) ≡ true
-  pub titled : fits (takes_title form) (is_given (codes "title") rows) ≡ true
 
 -- the word means the rule
 pub record AsksRule (word : Text) (asked : AskedRule) : Type 0 where
@@ -127,17 +87,19 @@ abbrev pub IsNamed : List Text → Bool → Type 0
 IsNamed words true = Any IsForeign words
 IsNamed words false = All IsPlain words
 
--- the forecast under the policies and rules that the words mean, in their order, at the moments that the others spell if a clock shows now
-pub record AsksForecast (now : Option ℕ) (rows : List Row) (ask : ForecastOptions) : Type 0 where
+-- the forecast under the policies and rules that the words mean, in their order, at the moments that the others spell
+pub record AsksForecast (rows : List Row) (ask : ForecastOptions) : Type 0 where
   pub words : List Text
   pub given : all_of (codes "policy") rows ≡ Some words
+  pub few : length words ≤ 16
   pub policies : AllZip MeansPolicy words ask.policies.items
   pub named : IsNamed words ask.named
-  pub moments : AllZip (SpellsAt now) (values_of (codes "at") rows) ask.moments.items
+  pub moments : AllZip SpellsTime (values_of (codes "at") rows) ask.moments.items
   pub rules : AllZip AsksRule (values_of (codes "rule") rows) ask.rules.items
   pub clock : IsClock (first_of (codes "offset") rows) ask.clock
   pub labels : ask.labels ≡ is_on (codes "labels") rows
   pub sizes : ask.sizes ≡ is_on (codes "sizes") rows
   pub title : ask.title.items ≡ unwrap_or (first_of (codes "title") rows) []
   pub form : IsForm rows ask.form
-  pub fit : Fits rows ask.form (length words) (length (values_of (codes "at") rows)) (length (values_of (codes "rule") rows))
+  pub ruled : (takes_rules ask.form || (length (values_of (codes "rule") rows) == 0)) ≡ true
+  pub suited : suits ask.form (length words) (length (values_of (codes "at") rows)) ≡ true

@@ -35,9 +35,8 @@ abbrev pub storm_shape : Shape
 storm_shape = command_shape (codes "storm") (default_rule (codes "writers") (codes "2")
     ∷ default_rule (codes "historians") (codes "1") ∷ default_rule (codes "rounds") (codes "10") ∷ [])
 
--- a word that is no option is read as a file, and refused later
 abbrev pub forecast_shape : Shape
-forecast_shape = command_shape (codes "forecast") (new_rule (codes "file") ∷ required_rule (codes "policy") ∷ repeated_rule (codes "at")
+forecast_shape = command_shape (codes "forecast") (required_rule (codes "policy") ∷ repeated_rule (codes "at")
     ∷ option_rule (codes "every") ∷ flag_rule (codes "labels") ∷ flag_rule (codes "sizes") ∷ option_rule (codes "list")
     ∷ flag_rule (codes "svg") ∷ option_rule (codes "title") ∷ flag_rule (codes "json") ∷ flag_rule (codes "csv")
     ∷ repeated_rule (codes "rule") ∷ option_rule (codes "offset") ∷ [])

@@ -8,8 +8,7 @@ ghost use Rattle.clap.specs.Words.{found_of, rows_of};
 use crate::invocation::{Invocation, command_of, flag, not_understood, option};
 use crate::reading::{Unread, read_forecast};
 use crate::rules::bad_rule;
-use clap::{Arg, ArgAction, ArgMatches, Command};
-use ele_moment::Moment;
+use clap::{ArgAction, ArgMatches, Command};
 use std::alloc::{AllocError, Global};
 
 const FORECAST: &str = "Print when each version of a file becomes due, and why";
@@ -31,9 +30,8 @@ Example:
 
 const POLICY: &str = "Forecast under POL; give up to 16 to compare them";
 
-const AT: &str = "Also print which versions are kept at the moment M: a\n\
-    time, now, +30d or 18:00 in UTC; can be given several\n\
-    times";
+const AT: &str = "Also print which versions are kept at the moment M; can\n\
+    be given several times";
 
 const SVG: &str = "Print an SVG drawing instead of the table";
 
@@ -70,10 +68,7 @@ pub(crate) fn forecast<'a>(alloc: Global) -> Result<Command<'a>, AllocError>
         .required(true);
     let at = option(alloc, "at", "M", AT).action(ArgAction::Append);
     let rule = option(alloc, "rule", "RULE", RULE).action(ArgAction::Append);
-    // A file among the arguments is refused with a hint.
-    let file = Arg::new(alloc, "file").hide(true);
     command_of(alloc, "forecast", FORECAST, MORE)
-        .arg(file)?
         .arg(policy)?
         .arg(at)?
         .arg(option(alloc, "every", "LENGTH", EVERY))?
@@ -89,14 +84,10 @@ pub(crate) fn forecast<'a>(alloc: Global) -> Result<Command<'a>, AllocError>
 }
 
 /// Returns what the arguments of a forecast ask for.
-pub(crate) fn asked_forecast(
-    alloc: Global,
-    now: Option<Moment>,
-    forecast: &ArgMatches,
-) -> Invocation
-    ensures { IsForecast now (rows_of (found_of forecast.now)) result }
+pub(crate) fn asked_forecast(alloc: Global, forecast: &ArgMatches) -> Invocation
+    ensures { IsForecast (rows_of (found_of forecast.now)) result }
 {
-    match read_forecast(alloc, now, forecast) {
+    match read_forecast(alloc, forecast) {
         Ok(ask) => Invocation::Forecast(ask),
         Err(Unread::Because(why)) => not_understood(alloc, why),
         Err(Unread::BadRule(fault)) => bad_rule(alloc, fault),

@@ -12,10 +12,7 @@ ghost use Rattle.std.specs.Prelude.{
   IsOk,
   MatchBool,
   IsTrue,
-  IfSome,
   Ok,
-  Some,
-  ℕ,
   codes,
   map,
   true,
@@ -24,23 +21,18 @@ ghost use Rattle.std.specs.Prelude.{
 ghost use Rattle.std.specs.List.{AllZip};
 ghost use Rattle.ele_outlook.specs.declared.options.Form.{Form};
 ghost use Rattle.ele_tool_words.specs.PolicyWord.{MeansPolicy};
+ghost use Rattle.ele_tool_words.specs.Time.{SpellsTime};
 ghost use Rattle.ele_invocation.specs.Forecasts.{
   AsksForecast,
-  Fits,
   IsForeign,
   IsForm,
   IsList,
   IsNamed,
   IsOverTime,
   IsPlain,
-  SpellsAt,
-  fits,
   flagged_form,
   suits,
-  takes_labels,
   takes_rules,
-  takes_sizes,
-  takes_title,
 };
 ghost use Rattle.ele_invocation.specs.Unread.{NoneAsks};
 ghost use Rattle.ele_invocation.specs.declared.reading.Unread.TheVariants as unread;
@@ -54,12 +46,10 @@ use ele_outlook::{ForecastOptions, Form, MOST_POLICIES};
 use ele_peer_rules::RuleFault;
 use ele_policy::Policy;
 use ele_tool_words::{read_length, read_policy, read_time};
-use ele_typed_words::{PolicyReason, policy_reason, read_when};
 use std::alloc::{AllocError, AllocFailed, Global};
 
 const BAD_MOMENT: &str =
-    "error: --at takes a time as 2026-01-31T12:00:00Z, 2026-01-31T12:00 or 2026-01-31, seconds \
-    since 1970, now, +30d, or 18:00 in UTC\n\n\
+    "error: --at takes a time as 2026-01-31T12:00:00Z, 2026-01-31 or seconds since 1970\n\n\
     For more information, try 'elephant forecast --help'.\n";
 
 const BAD_LIST: &str = "error: --list takes due or kept, one --policy and one --at\n\n\
@@ -67,46 +57,6 @@ const BAD_LIST: &str = "error: --list takes due or kept, one --policy and one --
 
 const BAD_POLICY: &str = "error: --policy takes one, all, standard, safe:LENGTH, safe:LENGTH/FLOOR \
     or landmarks:AGE/WIDTH,.., with lengths as 3600, 90m, 7d or 1y\n\n\
-    For more information, try 'elephant forecast --help'.\n";
-
-const NO_MONTH: &str = "error: --policy takes no months, since a month is 28 to 31 days: give \
-    days, as 30d\n\n\
-    For more information, try 'elephant forecast --help'.\n";
-
-const BAD_SECONDS: &str = "error: --policy: a policy has from 1 to 253402300799 seconds\n\n\
-    For more information, try 'elephant forecast --help'.\n";
-
-const BAD_FLOOR: &str = "error: --policy: a floor is at most 16 versions\n\n\
-    For more information, try 'elephant forecast --help'.\n";
-
-const BAD_PAIRS: &str = "error: --policy: a ladder has one to eight pairs, as in \
-    landmarks:1d/1h,7d/1d\n\n\
-    For more information, try 'elephant forecast --help'.\n";
-
-const BAD_AGES: &str = "error: --policy: each age of a ladder is greater than the one before it\n\n\
-    For more information, try 'elephant forecast --help'.\n";
-
-const BAD_WIDTHS: &str = "error: --policy: each width of a ladder divides the next, as 1h divides \
-    1d; 30d doesn't divide 365d\n\n\
-    For more information, try 'elephant forecast --help'.\n";
-
-const FILE_GIVEN: &str = "error: the times come from standard input, as in \
-    'elephant forecast --policy safe:7d < FILE'\n\n\
-    For more information, try 'elephant forecast --help'.\n";
-
-const BAD_CSV: &str = "error: --csv takes --at only with --rule: the table and --json have what \
-    stays at a moment\n\n\
-    For more information, try 'elephant forecast --help'.\n";
-
-const BAD_LABELS: &str = "error: --labels is for the table, --list, --json and --csv: leave it and \
-    the labels out\n\n\
-    For more information, try 'elephant forecast --help'.\n";
-
-const BAD_SIZES: &str = "error: --sizes is for the table, --json and --csv: leave it and the sizes \
-    out\n\n\
-    For more information, try 'elephant forecast --help'.\n";
-
-const BAD_TITLE: &str = "error: --title is for --svg\n\n\
     For more information, try 'elephant forecast --help'.\n";
 
 const MANY_POLICIES: &str = "error: --policy is given at most 16 times\n\n\
@@ -210,9 +160,9 @@ fn every_of(word: &str) -> Result<Form, Unread>
     }
 }
 
-// Refuses more policies or moments than the form takes, with so many rules.
-fn check_counts(form: Form, policies: usize, moments: usize, rules: usize) -> Result<(), Unread>
-    ensures { IsOk result ↔ ((policies ≤ 16) × (suits form policies moments rules ≡ true)) }
+// Refuses more policies or moments than the form takes.
+fn check_counts(form: Form, policies: usize, moments: usize) -> Result<(), Unread>
+    ensures { IsOk result ↔ ((policies ≤ 16) × (suits form policies moments ≡ true)) }
 {
     if policies > MOST_POLICIES {
         return Err(Unread::Because(MANY_POLICIES));
@@ -222,54 +172,8 @@ fn check_counts(form: Form, policies: usize, moments: usize, rules: usize) -> Re
             Err(Unread::Because(BAD_LIST))
         }
         Form::Every(_) if moments > 0 => Err(Unread::Because(BAD_EVERY)),
-        Form::Csv if moments > 0 && rules == 0 => Err(Unread::Because(BAD_CSV)),
         _ => Ok(()),
     }
-}
-
-// Refuses a file among the arguments.
-fn check_file(forecast: &ArgMatches) -> Result<(), Unread>
-    ensures { IsOk result ↔ (first_of (codes "file") (rows_of (found_of forecast.now)) ≡ None) }
-{
-    match value_of(forecast, "file") {
-        Some(_) => Err(Unread::Because(FILE_GIVEN)),
-        None => Ok(()),
-    }
-}
-
-// Refuses labels, sizes or a title for a form that has no place for them.
-fn check_fields(form: Form, labels: bool, sizes: bool, titled: bool) -> Result<(), Unread>
-    ensures { IsOk result ↔ ((fits (takes_labels form) labels ≡ true)
-        × (fits (takes_sizes form) sizes ≡ true) × (fits (takes_title form) titled ≡ true)) }
-{
-    match form {
-        Form::Drawing | Form::Every(_) if labels => Err(Unread::Because(BAD_LABELS)),
-        Form::Drawing | Form::Every(_) | Form::Due | Form::Kept if sizes => {
-            Err(Unread::Because(BAD_SIZES))
-        }
-        Form::Drawing => Ok(()),
-        _ if titled => Err(Unread::Because(BAD_TITLE)),
-        _ => Ok(()),
-    }
-}
-
-// Refuses what the form doesn't take, and a file.
-fn check_fit(
-    forecast: &ArgMatches,
-    form: Form,
-    policies: usize,
-    moments: usize,
-    rules: usize,
-) -> Result<(), Unread>
-    ensures { IsOk result ↔ Fits (rows_of (found_of forecast.now)) form policies moments rules }
-{
-    let labels = is_on(forecast, "labels");
-    let sizes = is_on(forecast, "sizes");
-    let titled = value_of(forecast, "title").is_some();
-    check_file(forecast)?;
-    check_counts(form, policies, moments, rules)?;
-    check_rules(form, rules)?;
-    check_fields(form, labels, sizes, titled)
 }
 
 // Refuses rules for a form that has none.
@@ -283,19 +187,6 @@ fn check_rules(form: Form, rules: usize) -> Result<(), Unread>
     }
 }
 
-// Returns why a word is no policy.
-fn policy_text(word: &[u8]) -> &'static str {
-    match policy_reason(word) {
-        PolicyReason::Month => NO_MONTH,
-        PolicyReason::Seconds => BAD_SECONDS,
-        PolicyReason::Floor => BAD_FLOOR,
-        PolicyReason::Pairs => BAD_PAIRS,
-        PolicyReason::Ages => BAD_AGES,
-        PolicyReason::Widths => BAD_WIDTHS,
-        PolicyReason::Form => BAD_POLICY,
-    }
-}
-
 // Returns the policies that the words mean.
 fn policies_in(alloc: Global, words: &[&str]) -> Result<Vec<Policy>, Unread>
     ensures read { IfOk result (λ policies. AllZip MeansPolicy
@@ -306,38 +197,23 @@ fn policies_in(alloc: Global, words: &[&str]) -> Result<Vec<Policy>, Unread>
     let mut policies = Vec::new(alloc);
     for word in words {
         let Some(policy) = read_policy(word.as_bytes()) else {
-            return Err(Unread::Because(policy_text(word.as_bytes())));
+            return Err(Unread::Because(BAD_POLICY));
         };
         policies.push(policy)?;
     }
     Ok(policies)
 }
 
-// Returns the moment that a word spells.
-fn read_at(word: &[u8], now: Option<Moment>) -> Option<Moment>
-    ensures found { IfSome result (SpellsAt now word.now) }
-    ensures only { (m : ℕ) → SpellsAt now word.now m → result ≡ Some m }
-{
-    match now {
-        Some(now) => read_when(word, now),
-        None => read_time(word).ok(),
-    }
-}
-
-// Returns the moments that the words spell if a clock shows now.
-fn moments_in(
-    alloc: Global,
-    now: Option<Moment>,
-    words: &[&str],
-) -> Result<Vec<Moment>, Unread>
-    ensures read { IfOk result (λ moments. AllZip (SpellsAt now)
+// Returns the moments that the words spell.
+fn moments_in(alloc: Global, words: &[&str]) -> Result<Vec<Moment>, Unread>
+    ensures read { IfOk result (λ moments. AllZip SpellsTime
         (map (λ word. word.now) words.now) moments.items) }
-    ensures unread { IfErr result (NoneAsks (AllZip (SpellsAt now)
+    ensures unread { IfErr result (NoneAsks (AllZip SpellsTime
         (map (λ word. word.now) words.now))) }
 {
     let mut moments = Vec::new(alloc);
     for word in words {
-        let Some(at) = read_at(word.as_bytes(), now) else {
+        let Ok(at) = read_time(word.as_bytes()) else {
             return Err(Unread::Because(BAD_MOMENT));
         };
         moments.push(at)?;
@@ -378,13 +254,9 @@ fn title_in(alloc: Global, forecast: &ArgMatches) -> Result<Vec<u8>, Unread>
 }
 
 /// Returns the forecast that matches ask for.
-pub(crate) fn read_forecast(
-    alloc: Global,
-    now: Option<Moment>,
-    forecast: &ArgMatches,
-) -> Result<ForecastOptions, Unread>
-    ensures read { IfOk result (AsksForecast now (rows_of (found_of forecast.now))) }
-    ensures unread { IfErr result (NoneAsks (AsksForecast now (rows_of (found_of forecast.now)))) }
+pub(crate) fn read_forecast(alloc: Global, forecast: &ArgMatches) -> Result<ForecastOptions, Unread>
+    ensures read { IfOk result (AsksForecast (rows_of (found_of forecast.now))) }
+    ensures unread { IfErr result (NoneAsks (AsksForecast (rows_of (found_of forecast.now)))) }
 {
     let form = form_in(forecast)?;
     let Some(words) = values_of(forecast, "policy") else {
@@ -392,13 +264,14 @@ pub(crate) fn read_forecast(
     };
     let times = values_of(forecast, "at").unwrap_or(&[]);
     let names = values_of(forecast, "rule").unwrap_or(&[]);
-    check_fit(forecast, form, words.len(), times.len(), names.len())?;
+    check_counts(form, words.len(), times.len())?;
+    check_rules(form, names.len())?;
     let title = title_in(alloc, forecast)?;
     let policies = match policies_in(alloc, words) {
         Ok(policies) => policies,
         Err(why) => return Err(why),
     };
-    let moments = match moments_in(alloc, now, times) {
+    let moments = match moments_in(alloc, times) {
         Ok(moments) => moments,
         Err(why) => return Err(why),
     };

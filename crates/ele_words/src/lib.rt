@@ -2,7 +2,6 @@
 //! A contract sees how a run ended, what the streams hold then, and the status.
 #![tactic(auto)]
 
-mod clock;
 mod failure;
 mod forecasting;
 mod keeps_error;
@@ -14,7 +13,6 @@ mod summary;
 mod system_reason;
 mod watched;
 
-pub use clock::now;
 pub use ele_invocation::{Invocation, unreadable_args, words};
 pub use failure::{Failure, status};
 pub use keeps_error::{KeepsError, LastError};

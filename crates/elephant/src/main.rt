@@ -6,7 +6,7 @@
 use ele_core::Core;
 use ele_output::Printer;
 use ele_words::{
-    Cleared, Counted, Invocation, KeepsError, Meter, dispatch, now, unreadable_args, words,
+    Cleared, Counted, Invocation, KeepsError, Meter, dispatch, unreadable_args, words,
 };
 use std::io::{IsTerminal, Write};
 use std::process::ExitCode;
@@ -18,7 +18,7 @@ const GREETING: &str = "elephant: each line is answered as it comes, and Ctrl-D 
 fn asked_for(rt: &HostRuntime) -> Invocation {
     match std::env::args(rt) {
         Ok(arguments) => match arguments.collect::<Vec<String>>(rt.alloc()) {
-            Ok(arguments) => words(rt.alloc(), now(rt), arguments.as_slice()),
+            Ok(arguments) => words(rt.alloc(), arguments.as_slice()),
             Err(_) => Invocation::NoMemory,
         },
         Err(error) => unreadable_args(rt.alloc(), error.kind()),

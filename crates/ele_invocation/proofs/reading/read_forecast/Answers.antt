@@ -2,7 +2,8 @@ use Rattle.std.proofs.Common.{rules, List, ℕ, subst, sym, ◌∙◌}
 use Rattle.std.proofs.lemmas.Option.{same_Some}
 use Rattle.std.specs.List.{AllZip}
 use Rattle.ele_tool_words.specs.PolicyWord.{MeansPolicy}
-use Rattle.ele_invocation.specs.Forecasts.{AsksRule, SpellsAt}
+use Rattle.ele_tool_words.specs.Time.{SpellsTime}
+use Rattle.ele_invocation.specs.Forecasts.{AsksRule}
 use Rattle.ele_invocation.proofs.Spelled.{none_weaker, values_are}
 use Rattle.ele_invocation.proofs.reading.read_forecast.Goals as goal
 
@@ -17,7 +18,7 @@ pub returns-in-Err-moments_in-clause-unread : goal.returns-in-Err-moments_in-cla
 returns-in-Err-moments_in-clause-unread c =
     none_weaker _ _ c.in-Err-moments_in.why (λ ask asks. (
       ask.moments.items,
-      subst (λ (words : List (List ℕ)). AllZip (SpellsAt c.args.now) words ask.moments.items)
+      subst (λ (words : List (List ℕ)). AllZip SpellsTime words ask.moments.items)
           (values_are c.values_of-2.result _ c.unwrap_or-times.result _ c.values_of-2.ensures c.unwrap_or-times.ensures (search rules)) asks.moments,
     )) c.in-Err-moments_in.ensures.unread
 
