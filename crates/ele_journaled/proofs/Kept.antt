@@ -2,7 +2,7 @@
 use Rattle.std.proofs.Common.{◌≡◌, ℕ, ◌+◌, ◌-◌, ◌<◌, ◌≤◌, Bool, true, false, ◌&&◌, List, [], ◌∷◌, ◌++◌, length, take, drop, Option, Some, None, is_some, Result, Ok, Err, refl, sym, ap, subst, ◌∙◌, append_assoc, arith, if◌then◌else◌}
 use Rattle.std.specs.Prelude.{IfOk, IfSome, IsTrue, OnErr}
 use Rattle.std.specs.List.{list_all}
-use Rattle.std.proofs.lemmas.List.{append-nil, drop_all, drop-append-le, take-append-drop, take_at, length-append, length-drop, length-take-le}
+use Rattle.std.proofs.lemmas.List.{append-nil, drop_all, drop-append-le, take-append-drop, take_at, length-append, length-drop}
 use Rattle.std.proofs.lemmas.List.Folds.{list_all-append}
 use Rattle.ele_model.specs.declared.event.Event.{Event}
 use Rattle.ele_model.specs.declared.reply.Reply.{Reply}
@@ -68,13 +68,13 @@ confirmed_on store event offer file le k = record {
 pub some_is : {X : Type 0} (P : X → Type 0) (o : Option X) (x : X) → o ≡ Some x → IfSome o P → P x
 some_is P o x is all = subst (λ (o : Option _). IfSome o P) is all
 
-pub stays : (store : Store) (event : Event) → IsSound store.change store.offer → StaysKept store ((answered store event).1)
+stays : (store : Store) (event : Event) → IsSound store.change store.offer → StaysKept store ((answered store event).1)
 stays store event sound = record {
   kept = keeps_on store event;
   offered = λ file will offer is. confirmed_on store event offer file (some_is (λ (offer : Offer). offer.count ≤ length store.change) store.offer offer is sound.within) (will offer is);
 }
 
-pub same : (store : Store) → StaysKept store store
+same : (store : Store) → StaysKept store store
 same store = record { kept = λ file k. k; offered = λ file w. w }
 
 pub stays_kept : {E : Type 0} (result : Result Reply E) (before after : Store) (event : Event) → IsSound before.change before.offer → IfOk result (λ reply. ◌≡◌ {A = Reply × Store} (reply, after) (answered before event)) → OnErr result (after ≡ before) → StaysKept before after
@@ -87,31 +87,11 @@ still_within : (change : List Event) (event : Event) (offer : Option Offer) → 
 still_within change event None le = tt
 still_within change event (Some offer) le = omega (arith, le, length-append change (event ∷ []))
 
--- no bytes have an event that was just added
-last_within_by : (change : List Event) (event : Event) (offer : Option Offer) → IfSome offer (λ offer. offer.count ≤ length change) → IfSome offer (λ offer. offer.count < length (change ++ event ∷ []))
-last_within_by change event None le = tt
-last_within_by change event (Some offer) le = omega (arith, le, length-append change (event ∷ []))
-
-pub last_within : (change : List Event) (event : Event) (offer : Option Offer) → IsSound change offer → IfSome offer (λ offer. offer.count < length (change ++ event ∷ []))
-last_within change event offer sound = last_within_by change event offer sound.within
-
 pub sound_grown : (change : List Event) (offer : Option Offer) (event : Event) → IsSound change offer → changes event ≡ true → IsSound (change ++ event ∷ []) offer
 sound_grown change offer event sound is = record {
   changing = list_all-append changes change (event ∷ []) ∙ rw (sound.changing, is) refl;
   within = still_within change event offer sound.within;
 }
-
-both_left : (a b : Bool) → (a && b) ≡ true → a ≡ true
-both_left true b e = refl
-both_left false b e = absurd cc
-
-sound_by : (change : List Event) (offer : Option Offer) (event : Event) (reply : Reply) (b : Bool) → counts event reply ≡ b → IsSound change offer → IsSound (if b then change ++ event ∷ [] else change) offer
-sound_by change offer event reply true is sound = sound_grown change offer event sound (both_left (changes event) _ is)
-sound_by change offer event reply false is sound = sound
-
--- an event that counts is no question
-pub sound_noted : (change : List Event) (offer : Option Offer) (event : Event) (reply : Reply) → IsSound change offer → IsSound (grown change event reply) offer
-sound_noted change offer event reply sound = sound_by change offer event reply (counts event reply) refl sound
 
 pub sound_offered : (change : List Event) (offer : Option Offer) (given : Offer) → IsSound change offer → given.count ≡ length change → IsSound change (Some given)
 sound_offered change offer given sound is = record { changing = sound.changing; within = omega (arith, is) }
@@ -122,25 +102,6 @@ both_right false b e = absurd cc
 
 all_dropped : (n : ℕ) (change : List Event) → list_all changes change ≡ true → list_all changes (drop n change) ≡ true
 all_dropped n change all = both_right (list_all changes (take n change)) (list_all changes (drop n change)) (sym (list_all-append changes (take n change) (drop n change)) ∙ ap (list_all changes) (take-append-drop n change) ∙ all)
-
-all_taken : (n : ℕ) (change : List Event) → list_all changes change ≡ true → list_all changes (take n change) ≡ true
-all_taken n change all = both_left (list_all changes (take n change)) (list_all changes (drop n change)) (sym (list_all-append changes (take n change) (drop n change)) ∙ ap (list_all changes) (take-append-drop n change) ∙ all)
-
-within_back : (n m : ℕ) (offer : Option Offer) → m + 1 ≡ n → IfSome offer (λ offer. offer.count < n) → IfSome offer (λ offer. offer.count ≤ m)
-within_back n m None is lt = tt
-within_back n m (Some offer) is lt = omega (arith, is, lt)
-
-within_none : (m : ℕ) (offer : Option Offer) → IfSome offer (λ offer. offer.count < 0) → IfSome offer (λ offer. offer.count ≤ m)
-within_none m None lt = tt
-within_none m (Some offer) lt = absurd (omega (arith, lt))
-
--- the last event is taken back, which no bytes have
-pub sound_back : (change : List Event) (offer : Option Offer) → IsSound change offer → IfSome offer (λ offer. offer.count < length change) → IsSound (take (length change - 1) change) offer
-sound_back [] offer sound lt = record { changing = refl; within = within_none 0 offer lt }
-sound_back (event ∷ events) offer sound lt = record {
-  changing = all_taken (length (event ∷ events) - 1) (event ∷ events) sound.changing;
-  within = within_back (length (event ∷ events)) (length (take (length (event ∷ events) - 1) (event ∷ events))) offer (omega (arith, length-take-le (length (event ∷ events) - 1) (event ∷ events) (omega arith))) lt;
-}
 
 pub sound_written : (n : ℕ) (change : List Event) (offer : Option Offer) → IsSound change offer → IsSound (drop n change) None
 sound_written n change offer sound = record { changing = all_dropped n change sound.changing; within = tt }

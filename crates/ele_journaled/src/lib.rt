@@ -10,16 +10,12 @@ ghost use Rattle.ele_journal.specs.Journal.{first_check, start};
 ghost use Rattle.ele_journaled.specs.Keeps.{Keeps, MayGive, StaysKept, WillKeep, WillKeepWith};
 ghost use Rattle.ele_journaled.specs.Store.{answered, appending, compacting, confirmed, counts, settled, written};
 
-mod copy;
 mod fault;
-mod journal;
 pub mod laws;
 mod offer;
 mod open;
 mod renewal;
 
-pub use crate::copy::copy_of;
-pub use crate::journal::{Journal, NewFile};
 use crate::offer::Offer;
 pub use ele_journal::Fault;
 use ele_journal::{Added, Check, begin, encode, is_change};
