@@ -9,7 +9,7 @@ ghost use Rattle.ele_files.specs.Inside.{IsFileKept};
 ghost use Rattle.ele_inode_log.specs.Rows.{EndsInTime, Precedes, last_of};
 
 use ele_blocks::BlockMap;
-use ele_inode_log::{InodeLog, Meter, RowMoment, VersionRow};
+use ele_inode_log::{InodeLog, Meter, VersionRow};
 use ele_model::VersionRow as FlatVersion;
 use ele_moment::{FileId, Moment, NoMemory, VersionNo};
 use ele_policy::Policy;
@@ -71,9 +71,9 @@ impl File {
         let ended = if is_live { None } else { Some(now) };
         let row = VersionRow {
             number,
-            opened: RowMoment::new(opened),
-            closed: RowMoment::new(now),
-            ended: RowMoment::stored(ended),
+            opened,
+            closed: now,
+            ended,
             cells,
         };
         match self.log.append(row) {
@@ -93,9 +93,9 @@ impl File {
     {
         let row = VersionRow {
             number: row.number,
-            opened: RowMoment::new(row.opened),
-            closed: RowMoment::new(row.closed),
-            ended: RowMoment::stored(row.ended),
+            opened: row.opened,
+            closed: row.closed,
+            ended: row.ended,
             cells,
         };
         match self.log.append(row) {

@@ -15,9 +15,9 @@ pub fn info_of(row: &VersionRow) -> VersionInfo
 {
     VersionInfo {
         number: row.number,
-        opened: row.opened.read(),
-        closed: row.closed.read(),
-        ended: row.end(),
+        opened: row.opened,
+        closed: row.closed,
+        ended: row.ended,
         length: row.cells.length(),
     }
 }
@@ -26,7 +26,7 @@ pub fn info_of(row: &VersionRow) -> VersionInfo
 fn ends_after(row: &VersionRow, moment: Moment) -> bool
     ensures { result ≡ ends_after moment row.now }
 {
-    match row.end() {
+    match row.ended {
         Some(ended) => moment < ended,
         None => true,
     }

@@ -5,9 +5,7 @@
 mod log;
 mod meter;
 mod row;
-mod row_moment;
 
 pub use log::InodeLog;
 pub use meter::Meter;
 pub use row::VersionRow;
-pub use row_moment::RowMoment;

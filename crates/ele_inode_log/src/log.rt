@@ -194,7 +194,7 @@ fn number_at(row: Option<&VersionRow>, moment: Moment) -> Option<VersionNo>
         (passing (ends_after moment) (option_copied row.entry)) }
 {
     let row = row?;
-    match row.end() {
+    match row.ended {
         Some(ended) if ended <= moment => None,
         _ => Some(row.number),
     }

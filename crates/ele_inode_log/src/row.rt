@@ -1,8 +1,5 @@
 //! The row of a held version, the cut of a search by closing, and the end of a version.
 //! A contract sees its fields, the cells as the layout of their block map.
-ghost use Rattle.std.specs.Prelude.{◌≡◌};
-
-use crate::row_moment::RowMoment;
 use ele_blocks::BlockMap;
 use ele_moment::{Moment, VersionNo};
 use ele_rows::{Change, Cut, Head, Headed};
@@ -13,22 +10,10 @@ use ele_rows::{Change, Cut, Head, Headed};
 #[derive(Drop)]
 pub struct VersionRow {
     pub number: VersionNo,
-    pub opened: RowMoment,
-    pub closed: RowMoment,
-    pub ended: Option<RowMoment>,
+    pub opened: Moment,
+    pub closed: Moment,
+    pub ended: Option<Moment>,
     pub cells: BlockMap,
-}
-
-const _: () = prove!(size_of::<VersionRow>() == 40);
-
-impl VersionRow {
-    /// Returns the moment at which the version ended. None if it has not.
-    /// Cost: constant time.
-    pub fn end(&self) -> Option<Moment>
-        ensures { result ≡ self.now.ended }
-    {
-        Some(self.ended.as_ref()?.read())
-    }
 }
 
 impl Headed for VersionRow {
@@ -37,7 +22,7 @@ impl Headed for VersionRow {
     fn head(&self) -> Head {
         Head {
             key: self.number.0,
-            rank: self.closed.read().seconds(),
+            rank: self.closed.seconds(),
         }
     }
 }
@@ -68,6 +53,6 @@ impl Change<VersionRow> for EndsAt {
     ghost keeps = { λ end row. refl };
 
     fn apply(&self, row: &mut VersionRow) {
-        row.ended = Some(RowMoment::new(self.0));
+        row.ended = Some(self.0);
     }
 }

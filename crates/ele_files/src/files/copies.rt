@@ -111,9 +111,9 @@ fn copy_log(
         rows.push(VersionRow {
             file: file.id,
             number: row.number,
-            opened: row.opened.read(),
-            closed: row.closed.read(),
-            ended: row.end(),
+            opened: row.opened,
+            closed: row.closed,
+            ended: row.ended,
             cells,
         })?;
     }

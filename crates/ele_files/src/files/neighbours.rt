@@ -31,7 +31,7 @@ impl Files {
     {
         let held = file_of(&self.files, file)?;
         let row = held.log.next_held(number, &mut Meter::new())?;
-        Some(row.closed.read())
+        Some(row.closed)
     }
 
     /// Returns the head of the file, by one look-up. None if there is no such file.
