@@ -25,7 +25,7 @@ use Rattle.ele_checkpoint.proofs.Lists.{list_form}
 use Rattle.ele_checkpoint.proofs.Values.{string_form, moment_form, maybe_form, name_form}
 use Rattle.ele_checkpoint.proofs.Policies.{policy_form}
 use Rattle.ele_journal.specs.Events.{names_text, tag_text, changes, event_text, IsTag, IsText, IsEvent}
-use Rattle.ele_journal.specs.EventsRead.{names_at, tag_at, of_path, path_event_at, paths_event_at, number_event_at, clock_at, truncate_at, write_at, save_at, revert_at, restore_at, policy_event_at, open_read_at, group_event_at, member_event_at, mark_at, unmark_at, session_event_at, rule_event_at, event_at}
+use Rattle.ele_journal.specs.EventsRead.{names_at, tag_at, of_path, path_event_at, paths_event_at, number_event_at, clock_at, truncate_at, write_at, save_at, revert_at, restore_at, policy_event_at, open_read_at, group_event_at, member_event_at, note_at, mark_at, unmark_at, session_event_at, rule_event_at, event_at}
 
 -- ---- paths and tags
 
