@@ -8,7 +8,7 @@ from pathlib import Path
 
 from program.peers import Part, Row
 
-SANOID = """
+SANOID = r"""
 use strict; use warnings; use JSON::PP;
 our ($now, %args, %config, %snaps, %snapsbytype, %pruned, $zfs);
 BEGIN { *CORE::GLOBAL::time = sub { $main::now } }
@@ -56,11 +56,12 @@ def sanoid_removes(program: Path, cases: Sequence[tuple[Sequence[Part], int, Seq
     text = SANOID.replace("FUNCTIONS", function_of(source, "getsnapsbytype") + "\n" + function_of(source, "prune_snapshots"))
     lines = []
     for parts, now, rows in cases:
-        counts = {**dict.fromkeys(KINDS, 0), **{it.option: it.number for it in parts}}
+        counts = {**dict.fromkeys(KINDS, 0), **{it.option: it.number or 0 for it in parts}}
         snapshots = [(row.moment, row.label.removeprefix("pool/data@")) for row in rows]
         lines.append(json.dumps({"now": now, "counts": counts, "rows": snapshots}))
     told = subprocess.run(["perl", "-e", text], input="".join(f"{it}\n" for it in lines), capture_output=True, encoding="utf-8", check=True)
-    removed, all_removed = set(), []
+    removed: set[str] = set()
+    all_removed = []
     for line in told.stdout.splitlines():
         if line == "END":
             all_removed.append(removed)

@@ -98,7 +98,7 @@ def snapper_kept(parts: Sequence[Part], now: int, rows: Sequence[Row]) -> list[R
 def sanoid_kind(label: str) -> str | None:
     """Returns the span of the kind that sanoid reads in a snapshot's name."""
     found = re.fullmatch(r"(?:.*@)?autosnap.*_(\w*ly)", label)
-    kind = found and {"frequently": "minutely"}.get(found[1], found[1])
+    kind = {"frequently": "minutely"}.get(found[1], found[1]) if found else None
     return kind if kind in PERIODS else None
 
 
