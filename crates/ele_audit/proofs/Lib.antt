@@ -1,11 +1,13 @@
 mod Basics
 mod Lengths
+mod Paths
 mod Clocks
-pub mod Gathers
+mod Gathers
+mod Lasts
 mod Lines
-pub mod Numbered
+mod Numbered
 mod Sees
 mod Tells
-pub mod StoryLines
+mod StoryLines
 mod Texts
 mod Walks

@@ -1,5 +1,6 @@
 pub mod AuditText
 pub mod Clock
+pub mod LivePath
 pub mod Open
 pub mod Removals
 pub mod Rows

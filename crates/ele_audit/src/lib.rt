@@ -4,6 +4,7 @@
 
 mod gone;
 mod listing;
+mod path;
 mod row;
 mod seen;
 mod stories;

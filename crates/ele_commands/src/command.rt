@@ -32,7 +32,6 @@ pub enum Command {
     ListNames,
     Mark,
     MakeDir,
-    Note,
     OpenWrite,
     OpenRead,
     Pass,
@@ -79,7 +78,7 @@ pub type Row = (
 
 /// A row for each command, in the order of `Command`: those with one first letter stand together, and
 /// of these the ones that come often first.
-pub static ROWS: [Row; 45] = [
+pub static ROWS: [Row; 44] = [
     (Command::Ahead, "ahead", "", &[Moment], Explaining),
     (Command::Answers, "answers", "", &[], Explaining),
     (Command::Abandon, "abandon", "", &[Handle], Always),
@@ -107,7 +106,6 @@ pub static ROWS: [Row; 45] = [
     (Command::ListNames, "list", "", &[Timed], Always),
     (Command::Mark, "mark", "", &[Name, Moment, End], Always),
     (Command::MakeDir, "mkdir", "", &[Path], Always),
-    (Command::Note, "note", "", &[Bytes], Always),
     (Command::OpenWrite, "open", "write", &[Path], Always),
     (Command::OpenRead, "open", "read", &[Tagged], Always),
     (Command::Pass, "pass", "", &[Number], Always),
@@ -163,7 +161,7 @@ pub enum Topic {
 }
 
 /// For help, what each command is about and how it is answered, in the order of `Command`.
-pub static HELP: [(Topic, &str); 45] = [
+pub static HELP: [(Topic, &str); 44] = [
     (
         Topic::Why,
         "ok ahead K, then K lines - RIPE FILE NUMBER in order",
@@ -212,7 +210,6 @@ pub static HELP: [(Topic, &str); 45] = [
     ),
     (Topic::Groups, "ok done"),
     (Topic::Names, "ok directory D"),
-    (Topic::History, "ok done"),
     (Topic::Contents, "ok handle H"),
     (Topic::Contents, "ok handle H"),
     (

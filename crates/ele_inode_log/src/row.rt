@@ -1,8 +1,9 @@
 //! The row of a held version, the cut of a search by closing, and the end of a version.
 //! A contract sees its fields, the cells as the layout of their block map.
 use ele_blocks::BlockMap;
+use ele_lists::Keyed;
 use ele_moment::{Moment, VersionNo};
-use ele_rows::{Change, Cut, Head, Headed};
+use ele_rows::{Change, Cut};
 
 /// A version of a file: its number, the moments at which it was opened, closed and ended, if it has
 /// ended, and its content. A store holds the content's blocks, and the row owns a share of them.
@@ -16,14 +17,11 @@ pub struct VersionRow {
     pub cells: BlockMap,
 }
 
-impl Headed for VersionRow {
-    ghost head = { λ row. record { key = row.number; rank = row.closed } };
+impl Keyed for VersionRow {
+    ghost key = { λ row. row.number };
 
-    fn head(&self) -> Head {
-        Head {
-            key: self.number.0,
-            rank: self.closed.seconds(),
-        }
+    fn key(&self) -> u64 {
+        self.number.0
     }
 }
 
@@ -31,13 +29,13 @@ impl Headed for VersionRow {
 #[derive(Clone, Copy)]
 pub struct ClosedBy(pub Moment);
 
-impl Cut for ClosedBy {
+impl Cut<VersionRow> for ClosedBy {
     ghost use Rattle.std.specs.Prelude.{nat_le};
 
-    ghost before = { λ cut head. nat_le head.rank cut.0 };
+    ghost before = { λ cut row. nat_le row.closed cut.0 };
 
-    fn is_behind(&self, head: Head) -> bool {
-        head.rank <= self.0.seconds()
+    fn is_behind(&self, row: &VersionRow) -> bool {
+        row.closed <= self.0
     }
 }
 
@@ -46,11 +44,9 @@ impl Cut for ClosedBy {
 pub struct EndsAt(pub Moment);
 
 impl Change<VersionRow> for EndsAt {
-    ghost use Rattle.std.specs.Prelude.{Some, refl};
+    ghost use Rattle.std.specs.Prelude.{Some};
 
     ghost changed = { λ end row. record row { ended = Some end.0 } };
-
-    ghost keeps = { λ end row. refl };
 
     fn apply(&self, row: &mut VersionRow) {
         row.ended = Some(self.0);

@@ -141,10 +141,6 @@ impl Item for Event {
                 out.push(26)?;
                 Ok(())
             }
-            Event::Note(bytes) => {
-                out.push(27)?;
-                put_string(out, bytes.as_slice())
-            }
             _ => Ok(()),
         }
     }

@@ -1,4 +1,3 @@
-pub mod Piece
 pub mod Chunks
 pub mod Tally
 pub mod Index

@@ -2,21 +2,19 @@
 //! A contract sees the rows that are still to come.
 ghost use Rattle.std.specs.Iterator.{YieldsFirstRef, item_count};
 
-use crate::chunk::Chunk;
-use crate::head::Headed;
 use std::iter::FusedIterator;
 use std::marker::Model;
 
 /// Iterates over the rows of a list in chunks.
 #[derive(Drop)]
-pub struct ChunkRows<'a, T: Headed> {
+pub struct ChunkRows<'a, T> {
     /// The rest of the current chunk.
     pub(crate) rows: &'a [T],
     /// The chunks after it.
-    pub(crate) chunks: &'a [Chunk<T>],
+    pub(crate) chunks: &'a [Vec<T>],
 }
 
-impl<'a, T: Headed> Model for ChunkRows<'a, T> {
+impl<'a, T> Model for ChunkRows<'a, T> {
     ghost use Rattle.std.specs.Prelude.{List, ◌++◌};
 
     ghost Value = { List T };
@@ -28,7 +26,7 @@ impl<'a, T: Headed> Model for ChunkRows<'a, T> {
     ghost invariant = { λ left. AreFilled left.chunks.now };
 }
 
-impl<'a, T: Headed + Drop> Iterator for ChunkRows<'a, T> {
+impl<'a, T> Iterator for ChunkRows<'a, T> {
     type Item = &'a T;
 
     ghost next_gives = { YieldsFirstRef (λ rest. rest) };
@@ -38,7 +36,7 @@ impl<'a, T: Headed + Drop> Iterator for ChunkRows<'a, T> {
     fn next(&mut self) -> Option<&'a T> {
         if self.rows.is_empty() {
             let (chunk, behind) = self.chunks.split_first()?;
-            self.rows = chunk.rows();
+            self.rows = chunk.as_slice();
             self.chunks = behind;
         }
         let (row, left) = self.rows.split_first()?;
@@ -47,4 +45,4 @@ impl<'a, T: Headed + Drop> Iterator for ChunkRows<'a, T> {
     }
 }
 
-impl<T: Headed + Drop> FusedIterator for ChunkRows<'_, T> {}
+impl<T> FusedIterator for ChunkRows<'_, T> {}

@@ -148,7 +148,7 @@ class Operations(Answering):
                     return info
         except MemoryError:
             raise pyfuse3.FUSEError(errno.ENOMEM) from None
-        return await self._open(ino, flags, context)
+        return await self._open(ino, flags)
 
     async def flush(self, handle: int) -> None:
         if handle & 1:
@@ -336,13 +336,10 @@ class Operations(Answering):
     def _opened(self, node: File, flags: int, is_cut: bool = False) -> int:
         writes = flags & os.O_ACCMODE != os.O_RDONLY
         self.contents.opened(node, writes, is_cut)
-        handle = node.ino * 2 + writes
-        if writes:
-            self.store.who.opened(handle)
-        return handle
+        return node.ino * 2 + writes
 
     @answered
-    def _open(self, ino: int, flags: int, context: Any) -> Any:
+    def _open(self, ino: int, flags: int) -> Any:
         node = self.by_ino.get(ino)
         if not isinstance(node, File):
             return self._open_past(ino, flags)
@@ -350,7 +347,6 @@ class Operations(Answering):
             raise OSError(errno.ESTALE, "")
         if flags & _CHANGES:
             self.require_writable()
-            self.store.who.asks(context)
         return self._info(self._opened(node, flags, bool(flags & os.O_TRUNC)), True)
 
     def _open_past(self, ino: int, flags: int) -> Any:
@@ -380,30 +376,23 @@ class Operations(Answering):
 
     @changing
     def write(self, handle: int, offset: int, data: bytes) -> int:
-        self.store.who.goes_on(handle)
         return self.contents.write(self._file(handle), offset, data)
 
     @answered
     def _flush(self, handle: int) -> None:
         if handle < FIRST_PAST_HANDLE:
-            self.store.who.goes_on(handle)
             self.contents.save(self._file(handle))
 
     @answered
     def _release(self, handle: int) -> None:
         if handle < FIRST_PAST_HANDLE:
-            self.store.who.goes_on(handle)
-            node = self._file(handle)
-            self.contents.closed(node, bool(handle & 1))
-            if not node.writers:
-                self.store.who.forget(handle)
+            self.contents.closed(self._file(handle), bool(handle & 1))
             return
         self.readers.release(handle)
 
     @answered
     def fsync(self, handle: int, only_data: bool) -> None:
         if handle < FIRST_PAST_HANDLE:
-            self.store.who.goes_on(handle)
             self.contents.save(self._file(handle))
             self.store.sync_journal()
 

@@ -1,4 +1,0 @@
-mod Basics
-pub mod Gathers
-pub mod Lasts
-mod Paths
