@@ -85,7 +85,7 @@ enum elephant_code {
     ELEPHANT_NO_VERSION = 14,      /* no version has had the number yet */
     ELEPHANT_NO_HANDLE = 15,       /* no open handle has the number */
     ELEPHANT_NOT_WRITER = 16,      /* the handle is one that reads */
-    ELEPHANT_TOO_BIG = 17,         /* the content would be longer than 1,048,576 bytes */
+    ELEPHANT_TOO_BIG = 17,         /* the content would be longer than 1,048,576 bytes, or the note than 200 */
     ELEPHANT_DRAFTING = 18,        /* a handle writes the file */
     ELEPHANT_NOT_RESTORABLE = 19,  /* nothing can be restored by this name */
     ELEPHANT_NO_GROUP = 20,        /* no group has the name */
@@ -495,6 +495,10 @@ int32_t elephant_pass(elephant *e, uint64_t budget, uint64_t *removed, uint64_t 
 
 /* Returns how many events are folded, and how many entries follow them. The line `history` also prints the entries. */
 int32_t elephant_history(const elephant *e, uint64_t *folded, uint64_t *entries);
+
+/* Puts the bytes into the history as an entry: who makes the next changes, say, and why. It changes nothing else, so a store without a
+ * history forgets them. TOO_BIG for more than 200 bytes. */
+int32_t elephant_note(elephant *e, const void *bytes, size_t len);
 
 /* Folds all entries into the base, and frees them. *folded: how many they were. */
 int32_t elephant_trim(elephant *e, uint64_t *folded);

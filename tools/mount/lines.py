@@ -182,6 +182,37 @@ def audits(room: str, asked: argparse.Namespace) -> Counts:
     return seen.counts()
 
 
+def whose(room: str, asked: argparse.Namespace) -> Counts:
+    """A mount with `--who` notes whose the changes are: once for each time that another program makes them, and its own removals too."""
+    seen = Faults("whose")
+    with Mounted(room, "--clean-every", "0", "--history", "--who") as mounted:
+        own = f"user {os.getuid()} {Path('/proc/self/comm').read_text(encoding='ascii').strip()}"
+        copier = f"user {os.getuid()} cp"
+        for text in ("one", "two"):
+            (mounted.folder / "f").write_text(text, encoding="ascii")
+        subprocess.run(["cp", str(mounted.folder / "f"), str(mounted.folder / "g")], check=True)
+        (mounted.folder / "f").write_text("three", encoding="ascii")
+        seen.expect("notes", _notes(mounted), [own, copier, own])
+        seen.expect("a line of a user", mounted.ask("default", "/", "one").splitlines(), ["ok done"])
+        seen.expect("its note", _notes(mounted)[3].startswith(f"user {os.getuid()} "), True)
+        (mounted.folder / "h").write_text("four", encoding="ascii")
+        (mounted.folder / "h").write_text("five", encoding="ascii")
+        seen.expect("removals", mounted.ask("clean all").startswith("ok removed "), True)
+        seen.expect("whose they are", _notes(mounted)[-1], "elephant-mount")
+        seen.expect("the content", (mounted.folder / "g").read_text(encoding="ascii"), "two")
+    with Mounted(room, "--clean-every", "0", "--history") as mounted:
+        before = _notes(mounted)
+        (mounted.folder / "f").write_text("six", encoding="ascii")
+        seen.expect("no notes unless asked", _notes(mounted), before)
+    return seen.counts()
+
+
+def _notes(mounted: Mounted) -> list[str]:
+    """Returns the texts of the notes in the history of a mount."""
+    rows = (it for it in mounted.ask("answers").splitlines() if it.startswith("- note "))
+    return [it.split("  ", 1)[1] for it in rows]
+
+
 def _made(chance: random.Random, takes: Mapping[str, str]) -> str:
     """Returns a line: mostly with as many words as its command takes."""
     first = chance.choice(FIRST)
@@ -215,4 +246,4 @@ def typed(room: str, asked: argparse.Namespace) -> Counts:
     return run_tests("typed", ["test_mount_lines", "test_mount_language", "test_mount_typed"])
 
 
-CHECKS = [lines, audits, reasons, typed]
+CHECKS = [lines, audits, whose, reasons, typed]

@@ -49,6 +49,7 @@ EVENTS = {
     "group_make": Asked("text", "GroupMake"), "group_drop": Asked("text", "GroupDrop"), "group_add": Asked("text text", "GroupAdd"),
     "group_remove": Asked("text text", "GroupRemove"), "mark": Asked("text number number", "Mark"),
     "unmark": Asked("text number", "Unmark"), "groups": Asked("out", "GroupsAll"), "clean": Asked("out", "CleanOne", "Removed"),
+    "note": Asked("text", "Note"),
 }
 # Calls that copy what is kept, by the index of a row and in it that of a member or a mark.
 KEPT = {

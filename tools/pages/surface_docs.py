@@ -112,7 +112,7 @@ def limits(facts: Facts) -> str:
         ["bytes of a line", most["line"], code("bad ", "LineTooLong")],
         ["names of a path, and bytes of a name", f"{most['names']}, and {most['name']}",
          f"{code('bad ', 'BadPath')}, {code('bad ', 'BadName')}"],
-        ["bytes of a content", most["content"], code("no ", "TooBig")],
+        ["bytes of a content, and of a note", f"{most['content']}, and {most['note']}", code("no ", "TooBig")],
     ]
     return table_of(["What", "Most", "Answer above it"], rows)
 
@@ -213,7 +213,7 @@ def limits_of_help(tree: Tree, facts: Facts) -> Iterator[str]:
     lines = f"{facts.code('TooManyLines').number} TooManyLines, status 1"
     wanted += [(lines, most["lines"]), (lines, most["bytes"]), (f"bad {facts.code('LineTooLong').number} LineTooLong", most["line"])]
     wanted += [(f"bad {facts.code(name).number} {name}", most[of]) for name, of in (("BadPath", "names"), ("BadName", "name"))]
-    wanted += [(f"no {facts.code('TooBig').number} TooBig", most["content"])]
+    wanted += [(f"no {facts.code('TooBig').number} TooBig", most[of]) for of in ("content", "note")]
     found = re.findall(r"^  \S.*?  +([\d,]+)  +(\S.*)$", tree[HELP_PAGES], re.M)
     have = [(answer, int(digits.replace(",", ""))) for digits, answer in found]
     for it in [*(it for it in have if it not in wanted), *(it for it in wanted if it not in have)]:

@@ -40,6 +40,7 @@ CONSTANTS = {
     "name": ("crates/ele_moment/src/name.rt", r"const MOST_BYTES: usize = ([\d_]+);"),
     "moment": ("crates/ele_moment/src/moment.rt", r"const LAST: u64 = (\d+);"),
     "content": ("crates/ele_content/src/longest.rt", r"const LONGEST_CONTENT: u64 = ([\d_]+);"),
+    "note": ("crates/ele_events/src/note.rt", r"const LONGEST_NOTE: usize = ([\d_]+);"),
 }
 SOURCES = [
     COMMAND, PARTS, STEP, CHANGE, ASKS, REFUSAL, LIMITS, ERRORS, HELP_PAGES, HELP_SCRIPT, LINE_FAULT, SHELL_FAULT, STORM_FAULT, CODES,

@@ -18,6 +18,10 @@ NUMBERS = {
         ("docs/MOUNT.md", r"\| a file \| ([\d,]+) bytes"), (place_of(RUST, "LARGEST_CONTENT: usize"), r"LARGEST_CONTENT: usize = ([^;]+);"),
         ("tools/program/twin_rows.py", r"LONGEST = (\d+ << \d+)"),
     ],
+    "note": [
+        (HEADER, r"TOO_BIG for more than ([\d,]+) bytes"), (ERRORS, r"or the note than ([\d,]+)"),
+        ("docs/UNDO.md", r"`note X` before it: up to ([\d,]+) bytes"), ("tools/program/twin_rows.py", r"LONGEST_NOTE = (\d+)"),
+    ],
     "name": [
         (HEADER, r"name has 1 to (\d+) bytes"), (ERRORS, r"a name has 1 to (\d+) bytes"), ("README.md", r"a name (\d+) bytes"),
         ("docs/SCRIPT.md", r"A name has 1 to (\d+) bytes"), ("docs/EMBED.md", r"a name (\d+) bytes"),

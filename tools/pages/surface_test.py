@@ -98,8 +98,8 @@ OF_FILES = [
     Planted(version.PACKAGE, '__version__ = "', '__version__ = "1', (version.PACKAGE,)),
     Planted(version.CRATE, '\nversion = "', '\nversion = "1', (version.CRATE,)),
     Planted(version.CRATE, "\nlicense-file = ", "\nlicense = ", (version.CRATE,)),
-    Planted(docs.OF_EVENTS[0], "Each of the 35 events", "Each of the 34 events", (docs.OF_EVENTS[0],)),
-    Planted(docs.OF_EVENTS[1], "each of the 35 events", "each of the 36 events", (docs.OF_EVENTS[1],)),
+    Planted(docs.OF_EVENTS[0], "Each of the 36 events", "Each of the 34 events", (docs.OF_EVENTS[0],)),
+    Planted(docs.OF_EVENTS[1], "each of the 36 events", "each of the 36 events", (docs.OF_EVENTS[1],)),
 ]
 ALL_OF_A_REFUSAL = (HEADER, python.ERRORS, python.NAMES, rust.SYS, rust.ERRORS, docs.ERRORS)
 # A fault, or something new, of a source.

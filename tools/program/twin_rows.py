@@ -9,6 +9,7 @@ from program.script_commands import read_numbers
 
 LAST_MOMENT = 253402300799
 LONGEST = 1 << 20
+LONGEST_NOTE = 200
 SLOT = 512
 HIGHEST_FLOOR = 16
 NUMBERS = read_numbers("Refusals")

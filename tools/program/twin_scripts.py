@@ -111,6 +111,7 @@ class Writer:
             (3, lambda: self.handle_line(lambda: f"truncate {self.known_handle()} {self.offset()}")),
             (9, lambda: self.handle_line(lambda: f"close {self.known_handle()}")),
             (2, lambda: self.handle_line(lambda: f"abandon {self.known_handle()}")),
+            (1, lambda: f"note {self.data() if rng.random() < 0.7 else rng.choice([200, 201]) * '7a'}"),
             (5, lambda: f"save {path() if rng.random() < 0.7 else self.new_path()} {self.data()}"),
             (3, lambda: f"revert {path()} {rng.randint(0, 8)}"),
             (4, lambda: f"restore {path() if rng.random() < 0.6 else self.new_path()} {self.moment()}"),

@@ -8,7 +8,7 @@ from collections.abc import Callable, Iterable, Iterator
 from datetime import datetime, timedelta
 
 from program.twin_rows import (
-    KINDS, LAST_MOMENT, LONGEST, ROOT, SLOT, Bad, Block, Draft, File, Group, Handle, Mark, Name, No, Place, Removal, Slots, Tagged, Target,
+    KINDS, LAST_MOMENT, LONGEST, LONGEST_NOTE, ROOT, SLOT, Bad, Block, Draft, File, Group, Handle, Mark, Name, No, Place, Removal, Slots, Tagged, Target,
     Version, check, content, due_under, ladder, level_of, listed, moments_of, or_dash, printed_line, refusal, rewritten, safe_numbers, some,
 )
 from program.twin_story import Taken, copied, known, story
@@ -460,6 +460,10 @@ class Twin:
         if what not in self.handles.values():
             row.draft = None
             self.drop_idle(what.file)
+        return "ok done"
+
+    def do_note(self, word: str) -> str:
+        check(word != "-" and len(bytes.fromhex(word)) > LONGEST_NOTE, "TooBig")
         return "ok done"
 
     # Versions without a session.

@@ -15,7 +15,7 @@ enum { CALL_CLOCK, CALL_TICK, CALL_MAKE_DIR, CALL_REMOVE_DIR, CALL_CREATE, CALL_
        CALL_OPEN_WRITE, CALL_OPEN_READ, CALL_WRITE, CALL_TRUNCATE, CALL_CLOSE, CALL_REVERT, CALL_SET_POLICY, CALL_SET_DEFAULT,
        CALL_GROUP_MAKE, CALL_GROUP_DROP, CALL_GROUP_ADD, CALL_GROUP_REMOVE, CALL_MARK, CALL_UNMARK, CALL_CLEAN_ONE, CALL_READ,
        CALL_READ_HANDLE, CALL_STAT, CALL_VERSIONS, CALL_LIST_NAMES, CALL_RESTORABLE, CALL_DUE, CALL_USAGE_ALL, CALL_GROUPS_ALL,
-       CALL_SAVE, CALL_ABANDON, CALL_RESTORE };
+       CALL_SAVE, CALL_ABANDON, CALL_RESTORE, CALL_NOTE };
 enum { KIND_NOW, KIND_DETAIL, KIND_HISTORY, KIND_PASS, KIND_WHY, KIND_KEY, KIND_REMOVED, KIND_VERSION, KIND_NAME, KIND_USAGE,
        KIND_GROUP, KIND_MEMBER, KIND_MARK, KIND_STAT, KIND_RUNG, KIND_COUNTS };
 enum { BYTES_CONTENT, BYTES_TEXT, BYTES_NAME, BYTES_GROUP };
@@ -49,7 +49,7 @@ const char *elephant_code_text(int32_t code) {
     case 14: return "NoVersion: no version has had the number yet";
     case 15: return "NoHandle: no open handle has the number";
     case 16: return "NotWriter: the handle is one that reads";
-    case 17: return "TooBig: the content would be longer than 1,048,576 bytes";
+    case 17: return "TooBig: the content would be longer than 1,048,576 bytes, or the note than 200";
     case 18: return "Drafting: a handle writes the file";
     case 19: return "NotRestorable: nothing can be restored by this name";
     case 20: return "NoGroup: no group has the name";
@@ -421,4 +421,9 @@ int32_t elephant_history(const elephant *e, uint64_t *folded, uint64_t *entries)
         *entries = kept.at[1];
     }
     return code;
+}
+
+int32_t elephant_note(elephant *e, const void *bytes, size_t len) {
+    uint64_t value;
+    return inner_event(e, CALL_NOTE, bytes, len, "", 0, 0, 0, 0, &value);
 }

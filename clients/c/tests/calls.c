@@ -337,6 +337,20 @@ static void a_session_makes_one_version(void) {
     elephant_delete(e);
 }
 
+static void a_note_is_an_entry_of_the_history(void) {
+    elephant *e = with_file(1);
+    uint64_t folded, before, entries;
+    OK(elephant_history(e, &folded, &before));
+    OK(elephant_note(e, TEXT("ticket 7")));
+    OK(elephant_note(e, "", 0));
+    OK(elephant_note(e, large, 200));
+    CODE(ELEPHANT_TOO_BIG, elephant_note(e, large, 201));
+    OK(elephant_history(e, &folded, &entries));
+    WANT(entries == before + 4);
+    HOLDS(e, "/f", ELEPHANT_NOW, 0, "two");
+    elephant_delete(e);
+}
+
 static void an_abandoned_draft_makes_no_version(void) {
     elephant *e = with_file(0);
     uint64_t first, second, reader, version, rows;
@@ -1055,6 +1069,7 @@ int main(void) {
     the_first_of_two_bad_arguments_is_told();
     some_names_do_not_come_back();
     a_session_makes_one_version();
+    a_note_is_an_entry_of_the_history();
     an_abandoned_draft_makes_no_version();
     a_save_makes_one_version();
     what_a_path_held_is_restored();

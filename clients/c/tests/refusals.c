@@ -110,6 +110,7 @@ ATTEMPT(close_changed, elephant_close_handle(e, 4, &out.number))
 ATTEMPT(close_reader, elephant_close_handle(e, 3, &out.number))
 ATTEMPT(revert, elephant_revert(e, TEXT("/f"), 2, &out.number))
 ATTEMPT(abandon, elephant_abandon(e, 4))
+ATTEMPT(note, elephant_note(e, TEXT("ticket 7")))
 ATTEMPT(save_over, elephant_save(e, TEXT("/f"), TEXT("xyz"), &out.number))
 ATTEMPT(save_large, elephant_save(e, TEXT("/f"), large, sizeof large, &out.number))
 ATTEMPT(save_none, elephant_save(e, TEXT("/f"), "", 0, &out.number))
@@ -160,7 +161,7 @@ static const struct attempt attempts[] = {
     NAMED(group_add),      NAMED(group_remove),  NAMED(mark),          NAMED(mark_until),    NAMED(unmark),       NAMED(groups),
     NAMED(why),            NAMED(clean),         NAMED(read_into),     NAMED(read_handle_into), NAMED(abandon),   NAMED(save_over),
     NAMED(save_large),     NAMED(save_none),     NAMED(save_new),      NAMED(restore_own),   NAMED(restore_dead), NAMED(restore_left),
-    NAMED(checkpoint),     NAMED(directory_across), NAMED(file_across), NAMED(version_across),
+    NAMED(checkpoint),     NAMED(directory_across), NAMED(file_across), NAMED(version_across), NAMED(note),
 };
 
 /* A store in which each of these calls has something to do. */

@@ -533,6 +533,29 @@ class NoHistory(Case):
 class Auditing(Case):
     has_history = True
 
+    def test_the_story_of_removed_versions(self) -> None:
+        self.save(b"f", b"one", b"two" * 500)
+        for line in ("policy /f safe:1h", "group make legal", "group add legal /f", f"mark legal {START + 5} until {START + 2 * HOUR}"):
+            self.assertRegex(self.ask(line), "^ok")
+        self.clocks.pass_by(3 * HOUR)
+        now = int(self.clocks.day)
+        self.assertRegex(self.ask("clean"), "^ok removed 2")
+        cause = "1 hour after its end"
+        self.assertEqual(self.ask("history /f").splitlines(), [
+            "ok f: 3 versions, 1 of them held; policy safe:3600",
+            "version  saved                ended                    bytes",
+            f"      1  {told(START)}  {told(START)}          0  removed {told(now)}, due since {told(START + HOUR)}: {cause}",
+            f"      2  {told(START)}  {told(START + 10)}          3  removed {told(now)}, due since {told(START + 2 * HOUR)}: {cause};"
+            f" the mark legal of {told(START + 5)} held it until then",
+            f"      3  {told(START + 10)}  -                        1,500  current",
+        ])
+        rows = json.loads(self.ask("history /f --json")[3:])["versions"]
+        self.assertEqual([(it["held"], it["opened"] is None, it["length"]) for it in rows],
+                         [(False, True, 0), (False, True, 3), (True, False, 1500)])
+        self.assertEqual([it["fate"].get("mark") for it in rows], [
+            None, {"group": "legal", "at": "2026-11-29T09:00:05Z", "until": "2026-11-29T11:00:00Z"}, None,
+        ])
+
     def test_the_lines_of_an_audit(self) -> None:
         self.save(b"f", b"one", b"two")
         self.ask("policy /f safe:1h")

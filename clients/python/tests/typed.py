@@ -196,6 +196,9 @@ class Typed:
     def do_default(self, name: str, word: str) -> None:
         self.store.set_default(path(name), policy(word))
 
+    def do_note(self, data: str) -> None:
+        self.store.note(content(data))
+
     def do_group_make(self, name: str) -> None:
         self.store.group_make(group(name))
 

@@ -92,6 +92,15 @@ impl Store {
         self.number(|e, folded| unsafe { sys::elephant_trim(e, folded) })
     }
 
+    /// Puts the bytes, at most 200, into the history: who makes the next changes, say, and why. It changes nothing else.
+    ///
+    /// # Errors
+    /// [`Error::TooBig`], [`Error::NoMemory`].
+    pub fn note(&self, bytes: &[u8]) -> Result<(), Error> {
+        // SAFETY: see `call`.
+        self.call(|e| unsafe { sys::elephant_note(e, bytes.as_ptr(), bytes.len()) })
+    }
+
     /// Returns which versions the stored events removed, when and why.
     ///
     /// ```

@@ -152,7 +152,7 @@ errors! {
     NoVersion = ELEPHANT_NO_VERSION, "no version has had the number yet";
     NoHandle = ELEPHANT_NO_HANDLE, "no open handle has the number";
     NotWriter = ELEPHANT_NOT_WRITER, "the handle is one that reads";
-    TooBig = ELEPHANT_TOO_BIG, "the content would be longer than 1,048,576 bytes";
+    TooBig = ELEPHANT_TOO_BIG, "the content would be longer than 1,048,576 bytes, or the note than 200";
     Drafting = ELEPHANT_DRAFTING, "a handle writes the file";
     NotRestorable = ELEPHANT_NOT_RESTORABLE, "nothing can be restored by this name";
     NoGroup = ELEPHANT_NO_GROUP, "no group has the name";

@@ -288,6 +288,7 @@ extern "C" {
     pub fn elephant_clean(e: *mut elephant, removed: *mut elephant_key) -> i32;
     pub fn elephant_pass(e: *mut elephant, budget: u64, removed: *mut u64, finished: *mut u64) -> i32;
     pub fn elephant_history(e: *const elephant, folded: *mut u64, entries: *mut u64) -> i32;
+    pub fn elephant_note(e: *mut elephant, bytes: *const u8, len: usize) -> i32;
     pub fn elephant_trim(e: *mut elephant, folded: *mut u64) -> i32;
     pub fn elephant_checkpoint(e: *mut elephant, length: *mut u64) -> i32;
     pub fn elephant_open_checkpoint(e: *mut elephant, bytes: *const u8, len: usize, history: u32) -> i32;

@@ -1,13 +1,11 @@
 mod Basics
 mod Lengths
-mod Paths
 mod Clocks
-mod Gathers
-mod Lasts
+pub mod Gathers
 mod Lines
-mod Numbered
+pub mod Numbered
 mod Sees
 mod Tells
-mod StoryLines
+pub mod StoryLines
 mod Texts
 mod Walks

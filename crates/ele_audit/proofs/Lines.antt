@@ -1,7 +1,7 @@
 -- The bytes of the lines of an audit, part after part.
 use Rattle.ele_audit.proofs.Basics.{arith, nat_tests, ◌≡◌, ℕ, List, [], ◌∷◌, ◌++◌, append_assoc, codes, decimal, refl, sym, ap, ◌∙◌, Option, Some, None}
 use Rattle.ele_audit.specs.AuditText.{gone_words, handle_line, path_or_dash, read_word, removed_line, why_gone_text}
-use Rattle.ele_audit.specs.LivePath.{names_in}
+use Rattle.ele_name_paths.specs.LivePath.{names_in}
 use Rattle.ele_audit.specs.Open.{file_of}
 use Rattle.ele_audit.specs.declared.row.OpenHandle.{OpenHandle}
 use Rattle.ele_audit.specs.declared.row.Removed.{Removed}

@@ -1,7 +1,7 @@
 -- The file that a path named last, entry after entry.
 use Rattle.ele_audit.proofs.Basics.{List, [], ap, sym, subst, ℕ, ◌++◌, ◌∷◌, ◌≡◌, ◌≤◌, ◌<◌, ◌+◌, ◌∙◌, Option, Some, None, option_or, drop, get_or, length}
 use Rattle.ele_audit.proofs.Gathers.{left_more, left_none}
-use Rattle.ele_audit.proofs.Lasts.{or_assoc, or_none}
+use Rattle.ele_name_paths.proofs.Lasts.{or_assoc, or_none}
 use Rattle.ele_audit.specs.Removals.{removal_in, removals}
 use Rattle.ele_audit.specs.Seen.{IsSeen}
 use Rattle.ele_audit.specs.Story.{seen_in, seen_last}

@@ -1,7 +1,7 @@
 -- The bytes of the lines of a story, part after part.
 use Rattle.ele_audit.proofs.Basics.{arith, nat_tests, ◌≡◌, ℕ, List, [], ◌∷◌, ◌++◌, append_assoc, codes, decimal, join_with_byte, refl, sym, ap, ◌∙◌, Option, Some, None}
 use Rattle.ele_audit.specs.AuditText.{path_or_dash}
-use Rattle.ele_audit.specs.LivePath.{names_in}
+use Rattle.ele_name_paths.specs.LivePath.{names_in}
 use Rattle.ele_audit.specs.Rows.{spaced}
 use Rattle.ele_audit.specs.StoryText.{fate_or_dash, hold_words, info_words, name_story_line, removed_words, version_story_line}
 use Rattle.ele_audit.specs.declared.story_row.NameStory.{NameStory}
@@ -14,7 +14,7 @@ use Rattle.ele_printer.proofs.Lines.{behind_word, fate_first, line_is}
 use Rattle.ele_printer.specs.Printed.{end_word}
 
 -- words of a line before others
-behind_append : (xs ys : List (List ℕ)) → behind_word (xs ++ ys) ≡ spaced xs ++ behind_word ys
+pub behind_append : (xs ys : List (List ℕ)) → behind_word (xs ++ ys) ≡ spaced xs ++ behind_word ys
 behind_append [] ys = refl
 behind_append (x ∷ []) ys = refl
 behind_append (x ∷ next ∷ xs) ys =
@@ -28,7 +28,7 @@ fate_or_dash_first : (fate : Option Fate) → (word : List ℕ) × (words : List
 fate_or_dash_first None = (codes "-", [], refl)
 fate_or_dash_first (Some fate) = fate_first fate
 
-behind_fate : (fate : Option Fate) → behind_word (fate_or_dash fate) ≡ 32 ∷ line_text (fate_or_dash fate)
+pub behind_fate : (fate : Option Fate) → behind_word (fate_or_dash fate) ≡ 32 ∷ line_text (fate_or_dash fate)
 behind_fate fate = let first = fate_or_dash_first fate in rw first.2 (behind_line first.0 first.1)
 
 -- the words of a mark in their parts

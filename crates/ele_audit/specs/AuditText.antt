@@ -11,7 +11,7 @@ use Rattle.ele_path.specs.PathText.{path_word}
 use Rattle.ele_printer.specs.HistoryText.{entry_line}
 use Rattle.ele_printer.specs.Printed.{IsReplyText, end_word}
 use Rattle.ele_model.specs.FateText.{fate_words}
-use Rattle.ele_audit.specs.LivePath.{names_in}
+use Rattle.ele_name_paths.specs.LivePath.{names_in}
 use Rattle.ele_audit.specs.Open.{file_of}
 use Rattle.ele_audit.specs.declared.row.OpenHandle.{OpenHandle}
 use Rattle.ele_audit.specs.declared.row.Removed.{Removed}

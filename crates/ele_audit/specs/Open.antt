@@ -12,7 +12,7 @@ use Rattle.ele_model.specs.declared.rows.Target.TheVariants.{File}
 use Rattle.ele_model.specs.Step.{step}
 use Rattle.ele_model.specs.World.{World, is_draft}
 use Rattle.std.specs.List.{AllZip}
-use Rattle.ele_audit.specs.LivePath.{live_path, names_in}
+use Rattle.ele_name_paths.specs.LivePath.{live_path, names_in}
 use Rattle.ele_audit.specs.declared.row.OpenHandle.{OpenHandle}
 
 -- the reply is the handle with that number

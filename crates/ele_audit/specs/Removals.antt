@@ -16,7 +16,7 @@ use Rattle.ele_path.specs.declared.tagged.Tag.{Tag}
 use Rattle.ele_path.specs.declared.tagged.Tag.TheVariants as tag
 use Rattle.ele_path.specs.declared.tagged.TaggedPath.{TaggedPath}
 use Rattle.std.specs.List.{AllZip, list_any}
-use Rattle.ele_audit.specs.LivePath.{live_path, names_in}
+use Rattle.ele_name_paths.specs.LivePath.{live_path, names_in}
 use Rattle.ele_audit.specs.declared.row.Removed.{Removed}
 
 -- ---- which entries removed a version

@@ -21,7 +21,7 @@ use Rattle.ele_model.specs.NameRows.{is_named}
 use Rattle.ele_model.specs.Told.{info_of}
 use Rattle.ele_model.specs.Walk.{file_at, file_now, walk_by}
 use Rattle.ele_model.specs.World.{World, is_held, is_version, root}
-use Rattle.ele_audit.specs.LivePath.{is_name_to, last_path, names_in}
+use Rattle.ele_name_paths.specs.LivePath.{is_name_to, last_path, names_in}
 use Rattle.ele_audit.specs.declared.story_row.NameStory.{NameStory}
 use Rattle.ele_audit.specs.declared.story_row.Story.{Story}
 use Rattle.ele_audit.specs.declared.story_row.VersionStory.{VersionStory}

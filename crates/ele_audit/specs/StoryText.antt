@@ -10,7 +10,7 @@ use Rattle.ele_model.specs.declared.rows.VersionInfo.{VersionInfo}
 use Rattle.ele_output.specs.Line.{line_text}
 use Rattle.ele_printer.specs.Printed.{end_word, refusal_text}
 use Rattle.ele_audit.specs.AuditText.{path_or_dash}
-use Rattle.ele_audit.specs.LivePath.{names_in}
+use Rattle.ele_name_paths.specs.LivePath.{names_in}
 use Rattle.ele_audit.specs.declared.story_row.NameStory.{NameStory}
 use Rattle.ele_audit.specs.declared.story_row.Story.{Story}
 use Rattle.ele_audit.specs.declared.story_row.VersionStory.{VersionStory}

@@ -5,11 +5,11 @@ ghost use Rattle.std.specs.List.{AllZip, list_any};
 ghost use Rattle.ele_model.specs.World.{World};
 ghost use Rattle.ele_audit.specs.Removals.{AreRemoved, HasRemovals, IsExplained, is_removal, removal_in};
 
-use crate::path::{Above, path_of};
 use crate::row::Removed;
 use ele_history::History;
 use ele_model::{Entry, Explain, FromFlat, Key, NoMemory, Reply, Target};
 use ele_moment::Moment;
+use ele_name_paths::{Above, path_of};
 use ele_world::laws;
 use std::alloc::Global;
 

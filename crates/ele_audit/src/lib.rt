@@ -4,7 +4,6 @@
 
 mod gone;
 mod listing;
-mod path;
 mod row;
 mod seen;
 mod stories;

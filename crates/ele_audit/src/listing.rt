@@ -4,11 +4,11 @@ ghost use Rattle.ele_audit.specs.Open.{AreOpen, IsOpen, file_of, opened_at, open
 ghost use Rattle.ele_history.specs.Past.{world_of};
 
 use crate::gone::clock_after;
-use crate::path::{Above, path_of};
 use crate::row::OpenHandle;
 use ele_history::History;
 use ele_model::{Explain, HandleRow, NameRow, NoMemory, Reads, Reply, Step, Target};
 use ele_moment::{FileId, Handle, Moment};
+use ele_name_paths::{Above, path_of};
 use std::alloc::Global;
 
 /// Returns the open handles, by number.

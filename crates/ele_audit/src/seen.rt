@@ -2,18 +2,18 @@
 ghost use Rattle.std.specs.Prelude.{◌≡◌, ◌++◌, ◌∷◌, [], IfOk, List, filter};
 ghost use Rattle.std.specs.List.{AllZip};
 ghost use Rattle.std.specs.Option.{option_or};
-ghost use Rattle.ele_audit.specs.LivePath.{is_name_to};
+ghost use Rattle.ele_name_paths.specs.LivePath.{is_name_to};
 ghost use Rattle.ele_audit.specs.Removals.{removal_in, removals};
 ghost use Rattle.ele_audit.specs.Seen.{IsSeen};
 ghost use Rattle.ele_audit.specs.Story.{AreNames, IsNameStory, seen_in, seen_last};
 ghost use Rattle.ele_model.specs.declared.rows.Target.TheVariants.{File};
 
-use crate::path::{Above, is_name_to, path_of};
 use crate::story_file::file_told;
 use crate::story_row::NameStory;
 use ele_history::History;
 use ele_model::{Explain, FromFlat, NameRow, NoMemory, Reply, Target};
 use ele_moment::{FileId, Name};
+use ele_name_paths::{Above, is_name_to, path_of};
 use ele_world::laws;
 use std::alloc::Global;
 

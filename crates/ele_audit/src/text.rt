@@ -2,7 +2,7 @@
 ghost use Rattle.std.specs.Prelude.{◌≡◌, ◌∷◌, ◌++◌, [], List, ℕ, codes, decimal};
 ghost use Rattle.std.specs.List.{flat_map};
 ghost use Rattle.ele_audit.specs.AuditText.{AreAnswers, IsAnswersText, gone_text, gone_words, handle_line, handles_text, path_or_dash, read_word, removed_line, why_gone_text};
-ghost use Rattle.ele_audit.specs.LivePath.{names_in};
+ghost use Rattle.ele_name_paths.specs.LivePath.{names_in};
 ghost use Rattle.ele_audit.specs.Open.{file_of};
 ghost use Rattle.ele_output.specs.Line.{line_text};
 ghost use Rattle.ele_output.specs.Prints.{Prints};

@@ -1,5 +1,5 @@
 -- The item at each place of a list after new items replaced part of it.
-use Rattle.ele_blocks.proofs.Words.{drop-append-add, [], append_assoc, arith, cond, drop, drop-drop, drop-map, is_between, laid_over, length, length-append, length-drop, length-map, length-take-le, List, map, map-append, nat_tests, set, set_split, slice_get, take, take-map, take_at, ℕ, ◌++◌, ◌+◌, ◌-◌, ◌<◌, ◌∷◌, ◌≡◌, ◌≤◌, slice_get-get_or, slice_get_past, get_or_append_left, get_or-append_right, get_or-take, get_or-drop, length-take}
+use Rattle.ele_blocks.proofs.Words.{drop-append-add, drop_all, take_all, append-nil, [], append_assoc, arith, cond, drop, drop-drop, drop-map, is_between, laid_over, length, length-append, length-drop, length-map, length-take-le, List, map, map-append, nat_tests, set, set_split, slice_get, take, take-map, take_at, ℕ, ◌++◌, ◌+◌, ◌-◌, ◌<◌, ◌∷◌, ◌≡◌, ◌≤◌, slice_get-get_or, slice_get_past, get_or_append_left, get_or-append_right, get_or-take, get_or-drop, length-take}
 
 module _ {X : Type 0} where
   pub slice_get-take : (d : X) (n k : ℕ) (xs : List X) → k < n → slice_get (take n xs) k ≡ slice_get xs k
@@ -29,3 +29,7 @@ laid_over-map g first new old = grind (arith, map-append, take-map, drop-map, le
 -- one item
 pub laid_set : {X : Type 0} (xs : List X) (at : ℕ) (y : X) → at < length xs → set xs at y ≡ laid_over at (y ∷ []) xs
 laid_set xs at y lt = grind (arith, set_split xs at y lt)
+
+-- the new items alone
+pub laid_alone : {X : Type 0} (new : List X) → take (length new) (laid_over 0 new []) ≡ new
+laid_alone new = grind (arith, take_all, append-nil, drop_all)

@@ -4,6 +4,6 @@ pub use Rattle.ele_blocks.proofs.Sized.{chunk_next, chunks_joined, flat-at, flat
 pub use Rattle.ele_blocks.proofs.Trades.{one_more, puts_more, PutsSoFar, release_more, release_next, share_few, share_more, share_next, slot_named, slot_next, times-append, times-ids, times-le-length, times-split, values_stay}
 pub use Rattle.ele_blocks.proofs.Backing.{backing_least, backing_put, backing_some, slots_backed, slots_least}
 pub use Rattle.ele_blocks.proofs.Hands.{backed_there, cells_each, hands_then, hands_with, leaf_covered, leaf_goes, leaf_stays, leaf_there, moved_copy, moved_one, release_leaves_backed, release_leaves_more, release_leaves_next, share_leaf, share_leaves_few, share_leaves_more, share_leaves_next, stay_in, StayIn, whole_same}
-pub use Rattle.ele_blocks.proofs.Sizes.{bytes_of, is_whole_by, its_bytes, leaf_is, leaf_owned, leaves-count, length-content, no_cell, slot_found, slots-count, whole_is}
+pub use Rattle.ele_blocks.proofs.Sizes.{bytes_of, is_whole_by, its_bytes, leaf_is, leaf_owned, leaf_read, leaves-count, length-content, no_cell, slot_found, slots-count, whole_is}
 pub use Rattle.ele_blocks.proofs.LaidOvers.{laid_at, laid_more, laid_over-map, length-laid_over, slice_get-take}
 pub use Rattle.ele_blocks.proofs.Splices.{length-spliced, piece_more, pieces_are, pieces_taken, spliced_part}

@@ -151,9 +151,26 @@ module _ (s t : Store) (count : ℕ) (news : List NewSlot) (whole : fills 512 by
     pub leaves_made : length leaves ≡ leaf_count (slot_count count)
     leaves_made = omega (arith, sized-count 16 (leaf_at t) (omega arith) (slot_count count) leaves filled)
 
+    pub leaves_few : length leaves ≡ leaf_count (length news)
+    leaves_few = leaves_made ∙ ap leaf_count (sym as_many)
+
     pub map_made : count ≤ longest_content → IsMade s t count news (record { size = count; leaves = leaves })
     map_made short =
         let new : Layout = record { size = count; leaves = leaves } in
         let whole_new : is_whole t new ≡ true = is_whole_by t new (record { short = short; bytes = rw h.cells sized_cells; leaves = filled }) in
         let hands = hands_with s t _ _ (λ q. 0) (λ q. times q leaves + 0) (λ q. 0) h.hands (λ q. omega arith) (λ q. omega arith) in
         record { size = refl; cells = h.cells; slots = h.slots; once = h.once; moves = record { hands = hands; whole = grind (arith, nat_tests, whole_new) } }
+
+    -- the map that shows these leaves
+    module _ (m : Layout) (size : m.size ≡ count) (same : m.leaves ≡ leaves) (short : count ≤ longest_content) where
+      both : m ≡ record { size = count; leaves = leaves }
+      both = λ i. record { size = size i; leaves = same i }
+
+      pub map_short : m.size ≤ longest_content
+      map_short = rw size short
+
+      pub map_leaves : length m.leaves ≡ leaf_count (slot_count m.size)
+      map_leaves = rw (same, size) leaves_made
+
+      pub map_shows : IsMade s t count news m
+      map_shows = subst (λ (x : Layout). IsMade s t count news x) (sym both) (map_made short)

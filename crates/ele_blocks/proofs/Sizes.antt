@@ -48,6 +48,10 @@ module _ (s : Store) (m : Layout) (lives : LivesIn s m) (slot leaf : ℕ) (lt : 
   pub leaf_is : leaf_at s leaf ≡ take 16 (drop (16 * (slot / 16)) (slots_of s m))
   leaf_is = ap (leaf_at s) is ∙ flat-at 16 (leaf_at s) (omega arith) (slot / 16) (slot_count m.size) m.leaves leaf (whole_is s m lives.whole).leaves leaf_within
 
+-- a leaf of a map, read with another default
+pub leaf_read : (s : Store) (m : Layout) → LivesIn s m → (slot : ℕ) → slot < slot_count m.size → get_or m.leaves (slot / 16) 0 ≡ get_or m.leaves (slot / 16) (get_or m.leaves (slot / 16) 0)
+leaf_read s m lives slot lt = get_or_default m.leaves (slot / 16) 0 (get_or m.leaves (slot / 16) 0) (omega (arith, leaves-count s m lives.whole, lt))
+
 pub slot_found : {X : Type 0} (xs leaf : List X) (slot : ℕ) (x : X) → leaf ≡ take 16 (drop (16 * (slot / 16)) xs) → slot < length xs → x ≡ get_or leaf (slot % 16) x → slice_get xs slot ≡ Some x
 slot_found xs leaf slot x is lt here = let place : 16 * (slot / 16) + slot % 16 ≡ slot = omega arith in
     slice_get_read xs (length xs) slot x refl lt (here ∙ rw (is, get_or-take 16 (drop (16 * (slot / 16)) xs) (slot % 16) x (omega arith), get_or-drop (16 * (slot / 16)) xs (slot % 16) x, place) refl)

@@ -2,6 +2,8 @@ pub mod Shared
 pub mod SharedInside
 pub mod BlockInside
 pub mod LeafInside
+pub mod LeafList
+pub mod LeafListInside
 pub mod Store
 pub mod Layout
 pub mod LayoutInside

@@ -7,6 +7,7 @@ mod block;
 mod laid;
 pub mod laws;
 mod leaf;
+mod leaf_list;
 mod map;
 mod new_slot;
 mod patch;

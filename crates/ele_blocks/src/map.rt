@@ -13,6 +13,7 @@ mod change;
 mod making;
 
 use crate::leaf::LEAF;
+use crate::leaf_list::LeafList;
 use crate::slot::{SLOT, Slot};
 use crate::store::{BlockId, BlockStore};
 use ele_moment::{NoMemory, VersionNo};
@@ -24,8 +25,7 @@ use std::marker::Model;
 /// there.
 #[derive(Drop)]
 pub struct BlockMap {
-    length: u64,
-    leaves: Vec<u32>,
+    list: LeafList,
     alloc: Global,
 }
 
@@ -47,8 +47,7 @@ impl BlockMap {
         ensures { result ≡ record { size = 0; leaves = [] } }
     {
         BlockMap {
-            length: 0,
-            leaves: Vec::new(alloc),
+            list: LeafList::new(),
             alloc,
         }
     }
@@ -57,14 +56,14 @@ impl BlockMap {
     pub fn length(&self) -> u64
         ensures { result ≡ self.now.size }
     {
-        self.length
+        self.list.size()
     }
 
     /// Returns the number of slots: one for each 512 bytes, and one for a shorter rest.
     pub fn slots(&self) -> usize
         ensures { result ≡ slot_count self.now.size }
     {
-        (self.length as usize).div_ceil(SLOT)
+        (self.length() as usize).div_ceil(SLOT)
     }
 
     /// Returns the version that last wrote the slot, and the slot's block. None past the last slot.
@@ -105,7 +104,7 @@ impl BlockMap {
         ensures is { leaf_at store.now result
             ≡ take 16 (drop (16 * (slot / 16)) (slots_of store.now self.now)) }
     {
-        self.leaves[slot / LEAF] as usize
+        self.list.as_slice()[slot / LEAF] as usize
     }
 
     /// Makes a second map of the same content, which shares every leaf with this one. If memory is
@@ -117,11 +116,10 @@ impl BlockMap {
         ensures moves { OnOk result (Moves store.old store.new [] (self.now ∷ [])) }
         ensures err { OnErr result (store.new ≡ store.old) }
     {
-        let leaves = Vec::from_slice(self.alloc, &self.leaves)?;
-        store.share_leaves(&self.leaves);
+        let list = self.list.copy(self.alloc)?;
+        store.share_leaves(self.list.as_slice());
         Ok(BlockMap {
-            length: self.length,
-            leaves,
+            list,
             alloc: self.alloc,
         })
     }
@@ -133,7 +131,7 @@ impl BlockMap {
         ensures bytes { IfOk result (λ bytes. bytes.items ≡ content_of (shown store.now self.now)) }
         ensures length { IfOk result (λ bytes. vec_len bytes ≡ self.now.size) }
     {
-        let mut all = Vec::with_capacity(self.alloc, self.length as usize)?;
+        let mut all = Vec::with_capacity(self.alloc, self.length() as usize)?;
         for slot in 0..self.slots() {
             all.extend_from_slice(self.bytes_at(store, slot))?;
         }
@@ -146,7 +144,7 @@ impl BlockMap {
         requires { LivesIn store.old self }
         ensures { Moves store.old store.new (self ∷ []) [] }
     {
-        store.release_leaves(&self.leaves);
+        store.release_leaves(self.list.as_slice());
     }
 
     // The bytes of a slot; none past the last.

@@ -25,7 +25,7 @@ abbrev pub late : List Call
 late =
     call.Unmark ∷ call.CleanOne ∷ call.Read ∷ call.ReadHandle ∷ call.Stat ∷ call.Versions
     ∷ call.ListNames ∷ call.Restorable ∷ call.Due ∷ call.UsageAll ∷ call.GroupsAll ∷ call.Save
-    ∷ call.Abandon ∷ call.Restore ∷ []
+    ∷ call.Abandon ∷ call.Restore ∷ call.Note ∷ []
 
 abbrev pub call_at : ℕ → Option Call
 call_at number =
@@ -70,6 +70,7 @@ AsksCall call.GroupsAll first second tag number other asked = Asks event.GroupsA
 AsksCall call.Save first second tag number other asked = AsksPath (λ path. event.Save path second) first asked
 AsksCall call.Abandon first second tag number other asked = Asks (event.Abandon number) asked
 AsksCall call.Restore first second tag number other asked = AsksThen event.Restore first number asked
+AsksCall call.Note first second tag number other asked = AsksBytes event.Note first asked
 
 -- a number that no call has is Syntax
 abbrev pub AsksNumbered : Option Call → List ℕ → List ℕ → ℕ → ℕ → ℕ → Result Event LineFault → Type 0

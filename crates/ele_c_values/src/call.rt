@@ -41,6 +41,7 @@ pub enum Call {
     Save,
     Abandon,
     Restore,
+    Note,
 }
 
 // The calls in the order of their numbers, which is that of the type, in three tables that a proof looks
@@ -73,7 +74,7 @@ static MIDDLE: [Call; 11] = [
     Call::Mark,
 ];
 
-static LATE: [Call; 14] = [
+static LATE: [Call; 15] = [
     Call::Unmark,
     Call::CleanOne,
     Call::Read,
@@ -88,6 +89,7 @@ static LATE: [Call; 14] = [
     Call::Save,
     Call::Abandon,
     Call::Restore,
+    Call::Note,
 ];
 
 fn early(place: u32) -> Option<Call>

@@ -103,5 +103,6 @@ pub fn event(
             Ok(both) => Ok(Event::Restore(both.0, both.1)),
             Err(fault) => Err(fault),
         },
+        Call::Note => content(alloc, first).map(Event::Note),
     }
 }

@@ -35,6 +35,7 @@ parts_of (event.GroupRemove name path) = (command.GroupRemove, Name name ∷ Pat
 parts_of (event.Mark name moment until) = (command.Mark, Name name ∷ Moment moment ∷ end_values until)
 parts_of (event.Unmark name moment) = (command.Unmark, Name name ∷ Moment moment ∷ [])
 parts_of event.CleanOne = (command.Clean, [])
+parts_of (event.Note bytes) = (command.Note, Bytes bytes ∷ [])
 parts_of (event.Read source) = (command.Read, Source source ∷ [])
 parts_of (event.Stat tagged) = (command.Stat, Tagged tagged ∷ [])
 parts_of (event.Versions timed) = (command.Versions, Timed timed ∷ [])

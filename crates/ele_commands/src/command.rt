@@ -32,6 +32,7 @@ pub enum Command {
     ListNames,
     Mark,
     MakeDir,
+    Note,
     OpenWrite,
     OpenRead,
     Pass,
@@ -78,7 +79,7 @@ pub type Row = (
 
 /// A row for each command, in the order of `Command`: those with one first letter stand together, and
 /// of these the ones that come often first.
-pub static ROWS: [Row; 44] = [
+pub static ROWS: [Row; 45] = [
     (Command::Ahead, "ahead", "", &[Moment], Explaining),
     (Command::Answers, "answers", "", &[], Explaining),
     (Command::Abandon, "abandon", "", &[Handle], Always),
@@ -106,6 +107,7 @@ pub static ROWS: [Row; 44] = [
     (Command::ListNames, "list", "", &[Timed], Always),
     (Command::Mark, "mark", "", &[Name, Moment, End], Always),
     (Command::MakeDir, "mkdir", "", &[Path], Always),
+    (Command::Note, "note", "", &[Bytes], Always),
     (Command::OpenWrite, "open", "write", &[Path], Always),
     (Command::OpenRead, "open", "read", &[Tagged], Always),
     (Command::Pass, "pass", "", &[Number], Always),
@@ -161,7 +163,7 @@ pub enum Topic {
 }
 
 /// For help, what each command is about and how it is answered, in the order of `Command`.
-pub static HELP: [(Topic, &str); 44] = [
+pub static HELP: [(Topic, &str); 45] = [
     (
         Topic::Why,
         "ok ahead K, then K lines - RIPE FILE NUMBER in order",
@@ -210,6 +212,7 @@ pub static HELP: [(Topic, &str); 44] = [
     ),
     (Topic::Groups, "ok done"),
     (Topic::Names, "ok directory D"),
+    (Topic::History, "ok done"),
     (Topic::Contents, "ok handle H"),
     (Topic::Contents, "ok handle H"),
     (

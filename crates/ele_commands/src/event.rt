@@ -129,6 +129,7 @@ pub fn put_event<W: Write>(event: &Event, printer: &mut Printer<'_, W>)
             )
         }
         Event::CleanOne => put_parts(Command::Clean, &[], printer),
+        Event::Note(bytes) => put_parts(Command::Note, &[Bytes(bytes.as_slice())], printer),
         Event::Read(source) => put_parts(Command::Read, &[Source(source)], printer),
         Event::Stat(tagged) => put_parts(Command::Stat, &[Tagged(tagged)], printer),
         Event::Versions(timed) => put_parts(Command::Versions, &[Timed(timed)], printer),

@@ -137,6 +137,7 @@ impl Core {
             Event::Mark(name, moment, until) => self.mark(name.get(), *moment, until).map(done),
             Event::Unmark(name, moment) => self.unmark(name.get(), *moment).map(done),
             Event::CleanOne => Ok(removed(self.clean_one())),
+            Event::Note(bytes) => Ok(done(self.note(bytes)?)),
             Event::Read(source) => self.read(source).map(Reply::Bytes),
             Event::Stat(tagged) => self.stat_reply(tagged),
             Event::Versions(at) => self.versions(at).map(Reply::Rows),

@@ -25,6 +25,7 @@ mod fate;
 mod from_flat;
 mod group;
 mod name;
+mod note;
 mod question;
 mod session;
 mod step;

@@ -153,7 +153,9 @@ fn meaning_of(refusal: &Refusal) -> &'static str {
             "no open handle has the number. 'open' answers with the number to use"
         }
         Refusal::NotWriter => { "the handle is one that reads. Open the file by 'open write'" }
-        Refusal::TooBig => { "the content would be longer than 1,048,576 bytes. Use several files" }
+        Refusal::TooBig => {
+            "the content would be longer than 1,048,576 bytes, or the note than 200. Use several"
+        }
         Refusal::Drafting => "a handle writes the file. Close it first",
         Refusal::NotRestorable => {
             "nothing can be restored by this name. 'restorable' lists what can"

@@ -50,6 +50,7 @@ makes a number free again.
   names of a path                32             bad 29 BadPath
   bytes of a name                64             bad 28 BadName
   bytes of a content             1,048,576      no 17 TooBig
+  bytes of a note                200            no 17 TooBig
 
 The root isn't one of the directories.
 ";

@@ -2,7 +2,7 @@
 //! examples.
 
 /// What a command does, and an example or nothing, in the order of `Command`.
-pub(crate) static PARAGRAPHS: [(&str, &str); 44] = [
+pub(crate) static PARAGRAPHS: [(&str, &str); 45] = [
     // ahead
     (
         "Lists what 'due' would list at M if only the clock moves. It needs the option\n--explain. NotAhead if M is earlier than now.",
@@ -107,6 +107,11 @@ pub(crate) static PARAGRAPHS: [(&str, &str); 44] = [
     (
         "Makes a directory. Its default is that of the directory that it is in. Exists\nif the name is in use.",
         "\nExample:\n    mkdir /docs    ok directory 1\n",
+    ),
+    // note
+    (
+        "Puts the bytes X, at most 200, into the history: who makes the next changes,\nsay, and why. It changes nothing else, and 'history' and 'answers' print it. X\nis two hexadecimal digits for each byte: 6f7073 is ops. TooBig if it is longer.",
+        "\nExample:\n    note 6f7073    ok done\n",
     ),
     // open write
     (

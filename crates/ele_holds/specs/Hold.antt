@@ -7,8 +7,9 @@ use Rattle.ele_policy.specs.RipeCase.{ripe_by}
 use Rattle.ele_model.specs.declared.rows.GroupRow.{GroupRow}
 use Rattle.ele_model.specs.declared.rows.MarkRow.{MarkRow}
 use Rattle.ele_model.specs.declared.rows.VersionRow.{VersionRow}
-use Rattle.ele_model.specs.FileView.{closings, is_newer, is_version_of}
+use Rattle.ele_model.specs.FileView.{closings}
 use Rattle.ele_model.specs.GroupRows.{covers_moment, is_member}
+use Rattle.ele_model.specs.Neighbours.{is_newer_of}
 use Rattle.ele_model.specs.World.{World, is_live, policy_of}
 use Rattle.ele_holds.specs.declared.hold.Hold.{Hold}
 
@@ -32,13 +33,9 @@ hold_until groups row at = option_and_then (hold_in row at) (find (has_last row 
 
 -- ---- the policy
 
--- the other one is a newer version of the same file
-abbrev pub is_newer_than : VersionRow → VersionRow → Bool
-is_newer_than row other = is_version_of row.file other && is_newer row other
-
 -- what the policy sees beside the version: when the newer held versions of its file closed, and whether the file is live
 abbrev pub beside_in : World → VersionRow → Beside
-beside_in w row = record { newer = closings (filter (is_newer_than row) w.versions); live = is_live w row.file }
+beside_in w row = record { newer = closings (filter (is_newer_of row.file row.number) w.versions); live = is_live w row.file }
 
 -- when the version would be due by its policy alone, if no mark and no handle held it
 abbrev pub policy_moment : World → VersionRow → Option ℕ

@@ -3,11 +3,10 @@ ghost use Rattle.std.specs.Prelude.{◌≡◌, IfOk, find};
 ghost use Rattle.std.specs.List.{list_any};
 ghost use Rattle.std.specs.Option.{option_copied};
 ghost use Rattle.ele_holds.specs.Hold.{has_last, hold_in, hold_of, hold_until, is_last};
-ghost use Rattle.ele_model.specs.GroupRows.{is_member};
 
 use crate::policy::lets_go_before;
-use ele_model::{Flat, GroupRow, MarkRow, NoMemory, VersionRow};
-use ele_moment::{FileId, Moment, Name};
+use ele_model::{Flat, GroupRow, MarkRow, NoMemory, VersionRow, is_member};
+use ele_moment::{Moment, Name};
 
 /// A mark, and the name of its group.
 #[derive(Clone, Copy, PartialEq, Eq)]
@@ -75,13 +74,6 @@ fn any_last(marks: &[MarkRow], row: &VersionRow, at: Moment) -> bool
     ensures { result ≡ list_any (is_last row.now at) marks.now }
 {
     marks.iter().any(|mark| is_last(mark, row, at))
-}
-
-// Whether the group has the file.
-fn is_member(group: &GroupRow, file: FileId) -> bool
-    ensures { result ≡ is_member file group.now }
-{
-    group.members.as_slice().contains(&file)
 }
 
 // The first of the marks that was made while the version was current, and ended at the moment.

@@ -1,9 +1,8 @@
 //! The row of a held version, the cut of a search by closing, and the end of a version.
 //! A contract sees its fields, the cells as the layout of their block map.
 use ele_blocks::BlockMap;
-use ele_lists::Keyed;
 use ele_moment::{Moment, VersionNo};
-use ele_rows::{Change, Cut};
+use ele_rows::{Change, Cut, Head, Headed};
 
 /// A version of a file: its number, the moments at which it was opened, closed and ended, if it has
 /// ended, and its content. A store holds the content's blocks, and the row owns a share of them.
@@ -17,11 +16,14 @@ pub struct VersionRow {
     pub cells: BlockMap,
 }
 
-impl Keyed for VersionRow {
-    ghost key = { λ row. row.number };
+impl Headed for VersionRow {
+    ghost head = { λ row. record { key = row.number; rank = row.closed } };
 
-    fn key(&self) -> u64 {
-        self.number.0
+    fn head(&self) -> Head {
+        Head {
+            key: self.number.0,
+            rank: self.closed.seconds(),
+        }
     }
 }
 
@@ -29,13 +31,13 @@ impl Keyed for VersionRow {
 #[derive(Clone, Copy)]
 pub struct ClosedBy(pub Moment);
 
-impl Cut<VersionRow> for ClosedBy {
+impl Cut for ClosedBy {
     ghost use Rattle.std.specs.Prelude.{nat_le};
 
-    ghost before = { λ cut row. nat_le row.closed cut.0 };
+    ghost before = { λ cut head. nat_le head.rank cut.0 };
 
-    fn is_behind(&self, row: &VersionRow) -> bool {
-        row.closed <= self.0
+    fn is_behind(&self, head: Head) -> bool {
+        head.rank <= self.0.seconds()
     }
 }
 
@@ -44,9 +46,11 @@ impl Cut<VersionRow> for ClosedBy {
 pub struct EndsAt(pub Moment);
 
 impl Change<VersionRow> for EndsAt {
-    ghost use Rattle.std.specs.Prelude.{Some};
+    ghost use Rattle.std.specs.Prelude.{Some, refl};
 
     ghost changed = { λ end row. record row { ended = Some end.0 } };
+
+    ghost keeps = { λ end row. refl };
 
     fn apply(&self, row: &mut VersionRow) {
         row.ended = Some(self.0);

@@ -25,7 +25,7 @@ use Rattle.ele_checkpoint.proofs.Lists.{list_form}
 use Rattle.ele_checkpoint.proofs.Values.{string_form, moment_form, maybe_form, name_form}
 use Rattle.ele_checkpoint.proofs.Policies.{policy_form}
 use Rattle.ele_journal.specs.Events.{names_text, tag_text, changes, event_text, IsTag, IsText, IsEvent}
-use Rattle.ele_journal.specs.EventsRead.{names_at, tag_at, of_path, path_event_at, paths_event_at, number_event_at, clock_at, truncate_at, write_at, save_at, revert_at, restore_at, policy_event_at, open_read_at, group_event_at, member_event_at, mark_at, unmark_at, session_event_at, rule_event_at, event_at}
+use Rattle.ele_journal.specs.EventsRead.{names_at, tag_at, of_path, path_event_at, paths_event_at, number_event_at, clock_at, truncate_at, write_at, save_at, revert_at, restore_at, policy_event_at, open_read_at, group_event_at, member_event_at, note_at, mark_at, unmark_at, session_event_at, rule_event_at, event_at}
 
 -- ---- paths and tags
 
@@ -254,17 +254,21 @@ take_26 : Takes 26
 unfolding event_at rule_event_at
 take_26 bytes x rest e = subst (λ (y : Event × List ℕ). IsTaken 26 bytes y.0 y.1) (ok_is (events.CleanOne, bytes) (x, rest) e) (record { text = refl; changing = refl })
 
+take_27 : Takes 27
+unfolding event_at rule_event_at note_at
+take_27 = take_one string_form (λ text. events.Note text) 27 (λ text. refl) (λ text. refl)
+
 past_17 : (kind : ℕ) (bytes : List ℕ) → 17 ≤ kind → event_at (kind ∷ bytes) ≡ rule_event_at kind bytes
 unfolding event_at
 past_17 kind bytes le = rw (le-ltb kind 6 (omega arith), le-ltb kind 8 (omega arith), le-ltb kind 11 (omega arith), le-ltb kind 17 le) refl
 
-past_26 : (kind : ℕ) (bytes : List ℕ) → 27 ≤ kind → rule_event_at kind bytes ≡ Err (mistake (length bytes) flaws.Choice)
+past_27 : (kind : ℕ) (bytes : List ℕ) → 28 ≤ kind → rule_event_at kind bytes ≡ Err (mistake (length bytes) flaws.Choice)
 unfolding rule_event_at
-past_26 kind bytes le =
-    rw (le-ltb kind 19 (omega arith), ne_eqb kind 19 (λ (i : kind ≡ 19). omega arith), le-ltb kind 22 (omega arith), le-ltb kind 24 (omega arith), ne_eqb kind 24 (λ (i : kind ≡ 24). omega arith), ne_eqb kind 25 (λ (i : kind ≡ 25). omega arith), ne_eqb kind 26 (λ (i : kind ≡ 26). omega arith)) refl
+past_27 kind bytes le =
+    rw (le-ltb kind 19 (omega arith), ne_eqb kind 19 (λ (i : kind ≡ 19). omega arith), le-ltb kind 22 (omega arith), le-ltb kind 24 (omega arith), ne_eqb kind 24 (λ (i : kind ≡ 24). omega arith), ne_eqb kind 25 (λ (i : kind ≡ 25). omega arith), ne_eqb kind 26 (λ (i : kind ≡ 26). omega arith), ne_eqb kind 27 (λ (i : kind ≡ 27). omega arith)) refl
 
-no_more : (kind : ℕ) → 27 ≤ kind → Takes kind
-no_more kind le bytes x rest e = absurd (let f = sym (past_17 kind bytes (omega arith) ∙ past_26 kind bytes le) ∙ e in cc)
+no_more : (kind : ℕ) → 28 ≤ kind → Takes kind
+no_more kind le bytes x rest e = absurd (let f = sym (past_17 kind bytes (omega arith) ∙ past_27 kind bytes le) ∙ e in cc)
 
 below_9 : (k : ℕ) → k < 9 → Takes k
 below_9 = one_more 8 take_8 (one_more 7 take_7 (one_more 6 take_6 (one_more 5 take_5 (one_more 4 take_4 (one_more 3 take_3 (one_more 2 take_2 (one_more 1 take_1 (one_more 0 take_0 (λ k lt. absurd (omega arith))))))))))
@@ -272,13 +276,13 @@ below_9 = one_more 8 take_8 (one_more 7 take_7 (one_more 6 take_6 (one_more 5 ta
 below_18 : (k : ℕ) → k < 18 → Takes k
 below_18 = one_more 17 take_17 (one_more 16 take_16 (one_more 15 take_15 (one_more 14 take_14 (one_more 13 take_13 (one_more 12 take_12 (one_more 11 take_11 (one_more 10 take_10 (one_more 9 take_9 below_9))))))))
 
-below_27 : (k : ℕ) → k < 27 → Takes k
-below_27 = one_more 26 take_26 (one_more 25 take_25 (one_more 24 take_24 (one_more 23 take_23 (one_more 22 take_22 (one_more 21 take_21 (one_more 20 take_20 (one_more 19 take_19 (one_more 18 take_18 below_18))))))))
+below_28 : (k : ℕ) → k < 28 → Takes k
+below_28 = one_more 27 take_27 (one_more 26 take_26 (one_more 25 take_25 (one_more 24 take_24 (one_more 23 take_23 (one_more 22 take_22 (one_more 21 take_21 (one_more 20 take_20 (one_more 19 take_19 (one_more 18 take_18 below_18)))))))))
 
 taken : (kind : ℕ) → Takes kind
 taken kind =
-    elim (cases_lt kind 27) [
-      | inl lt ↦ below_27 kind lt
+    elim (cases_lt kind 28) [
+      | inl lt ↦ below_28 kind lt
       | inr le ↦ no_more kind le
     ]
 
@@ -309,7 +313,7 @@ list_changes bytes xs rest e =
     items_change a.0.0 a.0.1 xs rest a.2
 
 event_again : (x : Event) (rest : List ℕ) → IsEvent x → event_at (event_text x ++ rest) ≡ Ok (x, rest)
-unfolding event_at clock_at group_event_at mark_at member_event_at number_event_at open_read_at path_event_at paths_event_at policy_event_at restore_at revert_at rule_event_at save_at session_event_at truncate_at unmark_at write_at
+unfolding event_at clock_at group_event_at mark_at member_event_at note_at number_event_at open_read_at path_event_at paths_event_at policy_event_at restore_at revert_at rule_event_at save_at session_event_at truncate_at unmark_at write_at
 event_again (events.MakeDir path) rest fits = again_one names_form (λ path. events.MakeDir path) path rest fits
 event_again (events.RemoveDir path) rest fits = again_one names_form (λ path. events.RemoveDir path) path rest fits
 event_again (events.Create path) rest fits = again_one names_form (λ path. events.Create path) path rest fits
@@ -337,6 +341,7 @@ event_again (events.GroupRemove name path) rest fits = again_two name_form names
 event_again (events.Mark name moment until) rest fits = again_three name_form moment_form maybe_form (λ name moment until. events.Mark name moment until) name moment until rest fits.0 fits.1 fits.2
 event_again (events.Unmark name moment) rest fits = again_two name_form moment_form (λ name moment. events.Unmark name moment) name moment rest fits.0 fits.1
 event_again events.CleanOne rest fits = refl
+event_again (events.Note text) rest fits = again_one string_form (λ text. events.Note text) text rest fits
 event_again (events.Read source) rest fits = absurd fits
 event_again (events.Stat tagged) rest fits = absurd fits
 event_again (events.Versions path) rest fits = absurd fits

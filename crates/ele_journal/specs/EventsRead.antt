@@ -129,6 +129,11 @@ unmark_at bytes = do
   moment ← moment_at name.1
   Ok (events.Unmark name.0 moment.0, moment.1)
 
+unfoldable pub note_at : List ℕ → Result (Event × List ℕ) Mistake
+note_at bytes = do
+  text ← string_at bytes
+  Ok (events.Note text.0, text.1)
+
 -- kinds of files and sessions, from 11 on
 unfoldable pub session_event_at : ℕ → List ℕ → Result (Event × List ℕ) Mistake
 session_event_at kind bytes =
@@ -149,6 +154,7 @@ rule_event_at kind bytes =
     else if kind == 24 then mark_at bytes
     else if kind == 25 then unmark_at bytes
     else if kind == 26 then Ok (events.CleanOne, bytes)
+    else if kind == 27 then note_at bytes
     else Err (mistake (length bytes) flaws.Choice)
 
 -- an event and the bytes after it

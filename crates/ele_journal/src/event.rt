@@ -141,6 +141,10 @@ impl Item for Event {
                 out.push(26)?;
                 Ok(())
             }
+            Event::Note(bytes) => {
+                out.push(27)?;
+                put_string(out, bytes.as_slice())
+            }
             _ => Ok(()),
         }
     }

@@ -1,10 +1,11 @@
-//! Events of policies, groups, marks and cleans, and opening to read, read from bytes.
+//! Events of policies, groups, marks, cleans and notes, and opening to read, read from bytes.
 //! A contract sees the event, and bytes.
 ghost use Rattle.ele_checkpoint.specs.Reading.{Gives};
-ghost use Rattle.ele_journal.specs.EventsRead.{group_event_at, mark_at, member_event_at, open_read_at, policy_event_at, rule_event_at, unmark_at};
+ghost use Rattle.ele_journal.specs.EventsRead.{group_event_at, mark_at, member_event_at, note_at, open_read_at, policy_event_at, rule_event_at, unmark_at};
 
 use crate::path::{path_of, tag_of};
-use ele_checkpoint::value::{maybe_of, moment_of, name_of, policy_of};
+use crate::session::copied;
+use ele_checkpoint::value::{maybe_of, moment_of, name_of, policy_of, string_of};
 use ele_checkpoint::{Flaw, Stop, wrong};
 use ele_model::{Boxed, Event};
 use ele_path::TaggedPath;
@@ -23,6 +24,7 @@ pub(crate) fn rule_event_of(alloc: Global, kind: u8, bytes: &[u8]) -> Result<(Ev
         24 => mark_of(alloc, bytes),
         25 => unmark_of(alloc, bytes),
         26 => Ok((Event::CleanOne, bytes)),
+        27 => note_of(alloc, bytes),
         _ => Err(wrong(bytes, Flaw::Choice)),
     }
 }
@@ -96,4 +98,12 @@ fn unmark_of(alloc: Global, bytes: &[u8]) -> Result<(Event, &[u8]), Stop>
     let name = Boxed::new(alloc, name)?;
     let (moment, rest) = taken!(moment_of(rest));
     Ok((Event::Unmark(name, moment), rest))
+}
+
+#[tactic(auto, unfolding(crate::specs::EventsRead::note_at))]
+fn note_of(alloc: Global, bytes: &[u8]) -> Result<(Event, &[u8]), Stop>
+    ensures { Gives (λ x. (x.0, x.1.now)) result (note_at bytes.now) }
+{
+    let (text, rest) = string_of(bytes)?;
+    Ok((Event::Note(copied(alloc, text)?), rest))
 }

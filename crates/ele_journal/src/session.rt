@@ -32,7 +32,7 @@ pub(crate) fn session_event_of(
 }
 
 // A copy of bytes.
-fn copied(alloc: Global, bytes: &[u8]) -> Result<ByteList, AllocError>
+pub(crate) fn copied(alloc: Global, bytes: &[u8]) -> Result<ByteList, AllocError>
     ensures { IfOk result (λ list. list ≡ bytes.now) }
 {
     Ok(ListOf::from_vec(Vec::from_slice(alloc, bytes)?))

@@ -8,7 +8,7 @@ use Rattle.ele_moment.specs.Last.{last_moment}
 use Rattle.ele_lists.specs.Lists.{remove_first}
 use Rattle.ele_path.specs.declared.tagged.Tag.TheVariants as tag
 use Rattle.ele_model.specs.declared.event.Event.{Event}
-use Rattle.ele_model.specs.declared.event.Event.TheVariants.{Clock, Tick, MakeDir, RemoveDir, Create, Link, Unlink, Rename, Undelete, OpenWrite, OpenRead, Write, Truncate, Close, Abandon, Save, Revert, Restore, SetPolicy, SetDefault, GroupMake, GroupDrop, GroupAdd, GroupRemove, Mark, Unmark, CleanOne, Read, Stat, Versions, List as ListNames, Restorable, Due, UsageAll, GroupsAll}
+use Rattle.ele_model.specs.declared.event.Event.TheVariants.{Clock, Tick, MakeDir, RemoveDir, Create, Link, Unlink, Rename, Undelete, OpenWrite, OpenRead, Write, Truncate, Close, Abandon, Save, Revert, Restore, SetPolicy, SetDefault, GroupMake, GroupDrop, GroupAdd, GroupRemove, Mark, Unmark, CleanOne, Note, Read, Stat, Versions, List as ListNames, Restorable, Due, UsageAll, GroupsAll}
 use Rattle.ele_model.specs.declared.event.Source.TheVariants.{Tagged, Of}
 use Rattle.ele_model.specs.declared.refusal.Refusal.{Refusal}
 use Rattle.ele_model.specs.declared.refusal.Refusal.TheVariants.{ClockBack, ClockEnd, IsDirectory, Exists, NotEmpty, IntoItself, TooBig, Drafting, NotRestorable, NoGroup, GroupExists, NoMark, MarkExists, NotPast, NotAhead, AlreadyMember, NotMember, Full}
@@ -55,6 +55,10 @@ cells_read w (reads.Version file number) = version_cells w file number
 abbrev pub draft_read : Reads → Option ℕ
 draft_read (reads.Draft file) = Some file
 draft_read (reads.Version file number) = None
+
+-- the most bytes of a note
+abbrev pub longest_note : ℕ
+longest_note = 200
 
 -- ---- a save
 
@@ -288,6 +292,8 @@ plan w (Unmark name mark) =
 -- the first version of the scan is removed, and a file without live name, version and draft with it
 plan w CleanOne =
     IfFound (first_due w) (Tell Nothing) (λ key. Make (Removed key) (Take key.file key.number ∷ DropIdle key.file ∷ []))
+-- a note changes nothing; the history keeps it
+plan w (Note bytes) = Unless (nat_lt longest_note (length bytes)) TooBig (Tell Done)
 -- the content that the handle reads
 plan w (Read (Of handle)) = Need (reads_by w.handles handle) (λ read. Tell (Bytes (content_of (cells_read w read))))
 -- the content of the version that the tagged path means, and of no other

@@ -77,6 +77,9 @@ pub enum Event {
     Unmark(Boxed<Name>, Moment),
     /// Removes the first due version.
     CleanOne,
+    /// Notes the bytes, at most 200: who makes the next changes, say, and why. It is an entry of the
+    /// history that changes nothing else.
+    Note(ByteList),
     /// Asks for the bytes of a version or a draft.
     Read(Source),
     /// Asks what the path and its tag mean, when it was made, how long it is, and for its policy.

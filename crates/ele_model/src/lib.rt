@@ -51,4 +51,5 @@ pub use rows::{
     DeletedName, DirectoryRow, DraftRow, FileRow, FileStat, GroupRow, HandleRow, MarkRow, NameRow,
     Reads, Target, VersionInfo, VersionRow,
 };
+pub use scan::{is_live, is_member, policy_of, ripe_by};
 pub use step::Step;

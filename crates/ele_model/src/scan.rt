@@ -52,7 +52,7 @@ fn is_open(handles: &[HandleRow], file: FileId, number: VersionNo) -> bool
 }
 
 /// Whether the group has the file.
-fn is_member(group: &GroupRow, file: FileId) -> bool
+pub fn is_member(group: &GroupRow, file: FileId) -> bool
     ensures { result ≡ is_member file group.now }
 {
     group.members.as_slice().contains(&file)
@@ -139,7 +139,7 @@ fn newer_closings(
 }
 
 /// Whether the file has a live name.
-fn is_live(names: &[NameRow], file: FileId) -> bool
+pub fn is_live(names: &[NameRow], file: FileId) -> bool
     ensures { result ≡ list_any (is_live_name_of file) names.now }
 {
     names.iter().any(|row| row.death.is_none() && row.target == Target::File(file))
@@ -159,7 +159,7 @@ fn ignores_newer(policy: &Policy, is_live: bool) -> bool
 /// When the policy lets go a version that ended then. The rows are plain and unchecked, so any
 /// newer version may decide.
 #[tactic(auto, using(crate::proofs::DueKeys::looks_away_tells))]
-fn ripe_by(
+pub fn ripe_by(
     policy: &Policy,
     versions: &[VersionRow],
     row: &VersionRow,

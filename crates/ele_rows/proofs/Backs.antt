@@ -1,13 +1,13 @@
 -- The element that has so many after it, in chunks.
-use Rattle.ele_lists.proofs.Basics.{Global, List, Some, Vec, [], append-nil, append_assoc, arith, length, reverse, slice_get, suc, take, zero, ℕ, ◌++◌, ◌+◌, ◌-◌, ◌<◌, ◌∷◌, ◌≡◌, ◌≤◌}
+use Rattle.ele_lists.proofs.Basics.{List, Some, [], append-nil, append_assoc, arith, length, reverse, slice_get, suc, take, zero, ℕ, ◌++◌, ◌+◌, ◌-◌, ◌<◌, ◌∷◌, ◌≡◌, ◌≤◌}
 use Rattle.ele_lists.proofs.Backs.{back-far, back-near}
-use Rattle.ele_rows.proofs.Basics.{flat}
+use Rattle.ele_rows.proofs.Basics.{Piece, flat}
 
 -- the last chunk holds it, or else it is so many fewer from the end of those before
-module _ {X : Type 0} (cs : List (Vec X Global)) (i : ℕ) (here : Vec X Global) (is : slice_get cs i ≡ Some here) where
+module _ {X : Type 0} (cs : List (Piece X)) (i : ℕ) (here : Piece X) (is : slice_get cs i ≡ Some here) where
   flat-more : flat (take (i + 1) cs) ≡ flat (take i cs) ++ here.items
   flat-more = by cs i is where
-    by : (ds : List (Vec X Global)) (k : ℕ) → slice_get ds k ≡ Some here → flat (take (k + 1) ds) ≡ flat (take k ds) ++ here.items
+    by : (ds : List (Piece X)) (k : ℕ) → slice_get ds k ≡ Some here → flat (take (k + 1) ds) ≡ flat (take k ds) ++ here.items
     by [] k found = grind arith
     by (d ∷ ds) zero found = grind (arith, append-nil d.items)
     by (d ∷ ds) (suc k) found = grind (arith, by ds k found, append_assoc d.items (flat (take k ds)) here.items)

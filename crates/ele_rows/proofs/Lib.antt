@@ -10,6 +10,8 @@ pub mod Serials
 pub mod Groups
 -- chunks as one list, for the functions of src/seam.rt
 mod Seams
+-- rows and the column of their heads, for the functions of src/chunk.rt
+pub mod Headings
 -- the same and the lemmas of lists, for answers
 mod Words
 pub mod Steps

@@ -9,7 +9,7 @@ pub ruleset change_end_steps = update_last-set
 
 pub ruleset seam_change_last_steps = (nat_tests, slice_get-get_or, flat-change_last, all-got, last_room-change)
 
-pub ruleset ends_before_steps = last-slice_get
+pub ruleset last_or_steps = (last-slice_get, last_of)
 
 pub ruleset last_has_room_steps = (last-slice_get, last_of, nat_tests)
 

@@ -9,4 +9,4 @@ pub use Rattle.ele_lists.proofs.Ends.{find-parted, find_last-end, find_last-part
 pub use Rattle.ele_rows.proofs.Groups.{found_of_group, greatest, in_group, last_of_group, least, of_group}
 pub use Rattle.ele_lists.proofs.Keys.{end-gap, end-missing, place-found, place-gap, place-missing, place-there, rises-parted}
 pub use Rattle.ele_rows.proofs.Parted.{before_sinks}
-pub use Rattle.ele_rows.proofs.Seams.{all-take, chunk_ends, chunk_read, chunk_rises, chunks_sink, dense_found, first_behind, flat-change_last, flat-remove_empty, flat-set_last, flat-taken, has_chunk, here_parted, key_found, key_missing, last-before_some, last-flat, last_room-change, last_room-here, last_room-set, place_split, room_needs, rows-here, seam_here, seam_past, sinks-parted}
+pub use Rattle.ele_rows.proofs.Seams.{all-take, chunk_ends, chunk_read, chunk_rises, chunks_sink, dense_found, filled-set, first_behind, flat-change_last, flat-remove_empty, flat-set_last, flat-taken, has_chunk, here_sinks, key_found, key_missing, last-before_some, last-flat, last_room-change, last_room-here, last_room-set, place_split, room_needs, rows-here, seam_here, seam_past, sinks-parted}

@@ -1,3 +1,4 @@
+pub mod Piece
 pub mod Chunks
 pub mod Tally
 pub mod Index

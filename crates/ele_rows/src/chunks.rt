@@ -7,13 +7,14 @@ ghost use Rattle.ele_lists.specs.Ends.{last_of, update_last};
 ghost use Rattle.ele_lists.specs.Keys.{Rises, stands_by};
 ghost use Rattle.ele_rows.specs.Chunks.{Sinks};
 
+use crate::chunk::Chunk;
 use crate::cut::{Change, Cut};
+use crate::head::Headed;
 use crate::rows::ChunkRows;
 use crate::seam::{
-    change_last, find_key, last_has_room, last_row, push_last, row_at, row_before, row_from_end,
-    seek, take_out,
+    change_last, find_key, last_has_room, last_if_behind, last_row, push_last, row_at, row_before,
+    row_from_end, seek, take_out,
 };
-use ele_lists::Keyed;
 use std::alloc::{AllocError, Global};
 use std::marker::Model;
 
@@ -35,14 +36,14 @@ fn next_room(count: usize) -> usize
 /// Rows in chunks, each chunk in an allocation of its own, so that a removal moves the rows of one
 /// chunk only. An empty chunk is kept as a spare for later rows.
 #[derive(Drop)]
-pub struct Chunks<T> {
-    chunks: Vec<Vec<T>>,
-    fresh: Option<Vec<T>>,
+pub struct Chunks<T: Headed> {
+    chunks: Vec<Chunk<T>>,
+    fresh: Option<Chunk<T>>,
     count: usize,
     alloc: Global,
 }
 
-impl<T> Model for Chunks<T> {
+impl<T: Headed> Model for Chunks<T> {
     ghost use Rattle.ele_rows.specs.Chunks.{Spaced, spaced_of, IsSpaced};
 
     ghost Value = { Spaced T };
@@ -52,7 +53,7 @@ impl<T> Model for Chunks<T> {
     ghost invariant = { λ l. IsSpaced l.chunks.items l.fresh l.count };
 }
 
-impl<T: Drop> Chunks<T> {
+impl<T: Headed + Drop> Chunks<T> {
     /// Makes an empty list. It takes no memory.
     pub fn new(alloc: Global) -> Chunks<T>
         ensures { result.rows ≡ [] }
@@ -90,7 +91,7 @@ impl<T: Drop> Chunks<T> {
             return Err(AllocError);
         }
         if self.fresh.is_none() {
-            self.fresh = Some(Vec::with_capacity(self.alloc, next_room(self.count))?);
+            self.fresh = Some(Chunk::with_capacity(self.alloc, next_room(self.count))?);
         }
         Ok(())
     }
@@ -106,7 +107,7 @@ impl<T: Drop> Chunks<T> {
             return;
         }
         if let Some(mut chunk) = self.fresh.take() {
-            chunk.push_reserved(row);
+            chunk.push(row);
             self.chunks.push_reserved(chunk);
         }
     }
@@ -146,9 +147,10 @@ impl<T: Drop> Chunks<T> {
     }
 
     /// Returns the first row after the cut.
-    pub fn first_behind<C: Cut<T>>(&self, cut: &C) -> Option<&T>
-        requires { AllLater (Sinks (C.before cut.now)) self.now.rows }
-        ensures { option_copied result ≡ find (λ row. not (C.before cut.now row)) self.now.rows }
+    pub fn first_behind<C: Cut>(&self, cut: &C) -> Option<&T>
+        requires { AllLater (Sinks (λ row. C.before cut.now (T.head row))) self.now.rows }
+        ensures { option_copied result
+            ≡ find (λ row. not (C.before cut.now (T.head row))) self.now.rows }
     {
         let (chunk, place) = seek(&self.chunks, cut);
         row_at(&self.chunks, chunk, place)
@@ -156,31 +158,32 @@ impl<T: Drop> Chunks<T> {
 
     /// Returns the last row before the cut.
     #[tactic(auto, using(crate::proofs::Steps::last_before_steps))]
-    pub fn last_before<C: Cut<T>>(&self, cut: &C) -> Option<&T>
-        requires { AllLater (Sinks (C.before cut.now)) self.now.rows }
-        ensures { option_copied result ≡ find (C.before cut.now) (reverse self.now.rows) }
+    pub fn last_before<C: Cut>(&self, cut: &C) -> Option<&T>
+        requires { AllLater (Sinks (λ row. C.before cut.now (T.head row))) self.now.rows }
+        ensures { option_copied result
+            ≡ find (λ row. C.before cut.now (T.head row)) (reverse self.now.rows) }
     {
-        match self.last() {
-            Some(last) if cut.is_behind(last) => Some(last),
-            _ => self.last_at_seam(cut),
+        match last_if_behind(&self.chunks, cut) {
+            Some(last) => Some(last),
+            None => self.last_at_seam(cut),
         }
     }
 
     // Finds the last row before the cut by a search.
-    fn last_at_seam<C: Cut<T>>(&self, cut: &C) -> Option<&T>
-        requires { AllLater (Sinks (C.before cut.now)) self.now.rows }
-        ensures { option_copied result ≡ find (C.before cut.now) (reverse self.now.rows) }
+    fn last_at_seam<C: Cut>(&self, cut: &C) -> Option<&T>
+        requires { AllLater (Sinks (λ row. C.before cut.now (T.head row))) self.now.rows }
+        ensures { option_copied result
+            ≡ find (λ row. C.before cut.now (T.head row)) (reverse self.now.rows) }
     {
         let (chunk, place) = seek(&self.chunks, cut);
         row_before(&self.chunks, chunk, place)
     }
-}
 
-impl<T: Keyed + Drop> Chunks<T> {
     /// Returns the row with that key.
     pub fn get(&self, key: u64) -> Option<&T>
-        requires { Rises T.key self.now.rows }
-        ensures { option_copied result ≡ find (stands_by T.key key) self.now.rows }
+        requires { Rises (λ row. (T.head row).key) self.now.rows }
+        ensures { option_copied result
+            ≡ find (stands_by (λ row. (T.head row).key) key) self.now.rows }
     {
         let (chunk, place) = find_key(&self.chunks, key)?;
         row_at(&self.chunks, chunk, place)
@@ -188,9 +191,10 @@ impl<T: Keyed + Drop> Chunks<T> {
 
     /// Removes and returns the row with that key. The memory for its place stays.
     pub fn remove(&mut self, key: u64) -> Option<T>
-        requires { Rises T.key self.old.rows }
-        ensures row { result ≡ find (stands_by T.key key) self.old.rows }
-        ensures rows { self.new.rows ≡ remove_first (stands_by T.key key) self.old.rows }
+        requires { Rises (λ row. (T.head row).key) self.old.rows }
+        ensures row { result ≡ find (stands_by (λ row. (T.head row).key) key) self.old.rows }
+        ensures rows { self.new.rows
+            ≡ remove_first (stands_by (λ row. (T.head row).key) key) self.old.rows }
         ensures room { 1 ≤ self.old.spare → 1 ≤ self.new.spare }
     {
         let (chunk, place) = find_key(&self.chunks, key)?;

@@ -6,6 +6,7 @@ ghost use Rattle.std.specs.Option.{unwrap_or};
 ghost use Rattle.ele_lists.specs.Keys.{Rises, stands_by, is_behind};
 
 use crate::cut::Cut;
+use crate::head::Head;
 use ele_lists::Keyed;
 
 /// Returns the place of the row with that key, or else the place to insert one. That is before the
@@ -41,20 +42,6 @@ fn place_if_dense<T: Keyed>(rows: &[T], key: u64) -> Option<usize>
     }
 }
 
-/// The place of the row with that key, if the keys from this one to the last row have no gap. Old
-/// rows are removed first, so the newer ones often have none.
-pub(crate) fn place_if_dense_behind<T: Keyed>(rows: &[T], key: u64) -> Option<usize>
-    requires { Rises T.key rows.now }
-    ensures { IfSome result (λ at. position (stands_by T.key key) rows.now ≡ Some at) }
-{
-    let behind = usize::try_from(rows.last()?.key().checked_sub(key)?).ok()?;
-    let at = rows.len().checked_sub(behind)?.checked_sub(1)?;
-    match rows.get(at) {
-        Some(row) if row.key() == key => Some(at),
-        _ => None,
-    }
-}
-
 /// The cut before a key: rows with lesser keys are before it.
 #[derive(Clone, Copy)]
 pub struct BeforeKey(pub u64);
@@ -63,22 +50,22 @@ pub struct BeforeKey(pub u64);
 #[derive(Clone, Copy)]
 pub struct BehindKey(pub u64);
 
-impl<T: Keyed> Cut<T> for BeforeKey {
+impl Cut for BeforeKey {
     ghost use Rattle.std.specs.Prelude.{nat_lt};
 
-    ghost before = { λ cut row. nat_lt (T.key row) cut.0 };
+    ghost before = { λ cut head. nat_lt head.key cut.0 };
 
-    fn is_behind(&self, row: &T) -> bool {
-        row.key() < self.0
+    fn is_behind(&self, head: Head) -> bool {
+        head.key < self.0
     }
 }
 
-impl<T: Keyed> Cut<T> for BehindKey {
+impl Cut for BehindKey {
     ghost use Rattle.std.specs.Prelude.{nat_le};
 
-    ghost before = { λ cut row. nat_le (T.key row) cut.0 };
+    ghost before = { λ cut head. nat_le head.key cut.0 };
 
-    fn is_behind(&self, row: &T) -> bool {
-        row.key() <= self.0
+    fn is_behind(&self, head: Head) -> bool {
+        head.key <= self.0
     }
 }

@@ -5,6 +5,7 @@ use Rattle.std.specs.Prelude.{◌&&◌, if◌then◌else◌, IsErr, ◌<◌}
 use Rattle.ele_runs.proofs.Words.{RunState, Outlet, Outputs, Puts, IsNoted, recorded, MayAnswer, MayMean, IsTold, IsTextIn, front_of, heard, noting, Past, PutsBlock, reply_to}
 use Rattle.ele_model.specs.declared.entry.Entry.{Entry}
 use Rattle.ele_model.specs.declared.event.Event.{Event}
+use Rattle.ele_model.specs.declared.refusal.Stop.{Stop}
 use Rattle.ele_model.specs.declared.refusal.Stop.TheVariants.{NoMemory, HistoryFull}
 use Rattle.ele_script.specs.Memory.{TakesMemory}
 use Rattle.ele_script.specs.Spells.{Asks}
@@ -19,12 +20,13 @@ use Rattle.ele_runs.specs.Kept.{Kept, Plain, Recorded, Stays, has_past, last_rep
 use Rattle.ele_runs.specs.Said.{Explains, HearsKept, Records, Trims, as_history, as_question, as_trim, has_no_reply, said_front, to_answer, to_read, to_tell, to_trim}
 use Rattle.ele_run_options.specs.declared.options.RunOptions.{RunOptions}
 use Rattle.ele_runs.specs.RunState.{counted}
+use Rattle.ele_runs.proofs.Notes.{noted_good}
 use Rattle.ele_runs.proofs.Outcomes.{answer_outcome}
 use Rattle.ele_runs.specs.declared.said.Said.{Said}
 use Rattle.ele_runs.specs.declared.said.Said.TheVariants.{Nothing, Bad, Stopped, Replied, Passed, History, Trimmed}
 use Rattle.ele_output.proofs.Known.{puts_no_more, puts_then}
 use Rattle.ele_runs.specs.Told.{cut_told}
-use Rattle.ele_runs.specs.Written.{HearsNext, WritesLast, end_by}
+use Rattle.ele_runs.specs.Written.{AsksEventIn, HearsNext, IsEventText, WritesLast, end_by, event_said, number_front}
 use Rattle.ele_runs.specs.declared.end.RunEnd.{RunEnd}
 use Rattle.ele_runs.specs.declared.tally.Outcome.{Outcome}
 
@@ -132,6 +134,13 @@ kept_silent options kept line is = as_heard options kept kept (Some line) (Some 
 pub kept_long : (options : RunOptions) (kept : Kept) → HearsKept options kept None (Bad fault.LineTooLong) kept
 kept_long options kept = as_heard options kept kept None None (Bad fault.LineTooLong) (long_heard options) (refl, stays kept) (λ number. refl)
 
+-- a line that asks for an event
+pub event_heard : (options : RunOptions) (before after : Kept) (line : Option (List ℕ)) (event : Event) (stop : Option Stop) → AsksEventIn options line event
+    → Records before event (event_said stop) after → HearsKept options before line (event_said stop) after
+event_heard options before after None event stop asked done = absurd asked
+event_heard options before after (Some line) event stop asked done =
+    kept_heard options before after line (event_said stop) asked.0 (hears_event before after line event (event_said stop) asked.1 done)
+
 -- the reason beside the answer, for each text of it
 abbrev Notes : RunState → Option (List ℕ) → Said → Outlet → Outlet → Type 0
 Notes after line said old new = (text : List ℕ) → IsTextIn after.past said text → IsNoted after.options after.number line text old new
@@ -170,6 +179,15 @@ pub block_put : (before after view : RunState) (line : Option (List ℕ)) (said 
 block_put before after view line said old new a b c is on hears noted front told =
     subst (λ (run_state : RunState). PutsBlock (noting before old) line (noting run_state new) a c) is
     (put_here before view line said old new a b c on (subst (λ (run_state : RunState). HearsNext before line said run_state) (sym is) hears) (subst (λ (run_state : RunState). Notes run_state line said old new) (sym is) noted) front told)
+
+-- the same for an event, beside which no reason is printed
+pub event_put : (before after view : RunState) (line : Option (List ℕ)) (stop : Option Stop) (notes : Outlet) (a b c : Outlet) → view ≡ after → before.ended ≡ false → HearsNext before line (event_said stop) after
+    → Puts a b (number_front view.options view.number) → (text : List ℕ) × IsEventText (last_reply view.past) stop text × Puts b c text
+    → PutsBlock (noting before notes) line (noting after notes) a c
+event_put before after view line None notes a b c is on hears front told =
+    block_put before after view line Replied notes notes a b c is on hears (noted_good after.options after.number line after.past Replied notes notes tt refl) front told
+event_put before after view line (Some stop) notes a b c is on hears front told =
+    block_put before after view line (Stopped stop) notes notes a b c is on hears (noted_good after.options after.number line after.past (Stopped stop) notes notes tt refl) front told
 
 -- the writer failed at the text for a last line
 pub finishes_err : {E : Type 0} (run_state : RunState) (buffer : Option (List ℕ)) (a b c : Outlet) (r : Result RunEnd E) → IsErr r → Puts a b (cut_told run_state buffer) → Outputs b c [] → WritesLast run_state buffer a c r

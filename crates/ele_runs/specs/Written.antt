@@ -1,18 +1,45 @@
 -- The text that was printed for a line, and for a script. No public clause cites this module.
-use Rattle.std.specs.Prelude.{◌≡◌, ℕ, ◌+◌, List, [], true, Option, Some, None, Result, Ok, Err, if◌then◌else◌}
+use Rattle.std.specs.Prelude.{◌≡◌, ℕ, ◌+◌, false, true, List, [], ◌∷◌, ◌++◌, decimal, Option, Some, None, Result, Ok, Err, if◌then◌else◌}
+use Rattle.ele_model.specs.declared.event.Event.{Event}
+use Rattle.ele_model.specs.declared.refusal.Stop.{Stop}
+use Rattle.ele_model.specs.declared.reply.Reply.{Reply}
 use Rattle.ele_output.specs.Outlet.{HandsOver, Outlet, Puts}
+use Rattle.ele_printer.specs.Printed.{stop_text}
 use Rattle.ele_runs.specs.Block.{cut_count}
 use Rattle.ele_runs.specs.Kept.{Recorded, last_reply}
 use Rattle.ele_runs.specs.RunState.{RunState, counted}
-use Rattle.ele_runs.specs.Said.{HearsKept}
+use Rattle.ele_runs.specs.Said.{HearsKept, IsLastText, has_no_reply}
 use Rattle.ele_runs.specs.Tally.{outcome_for}
 use Rattle.ele_runs.specs.declared.said.Said.{Said}
+use Rattle.ele_runs.specs.declared.said.Said.TheVariants.{Replied, Stopped}
 use Rattle.ele_runs.specs.Telling.{IsTallyOf, Tells}
 use Rattle.ele_runs.specs.Told.{IsTold, cut_told}
 use Rattle.ele_runs.specs.declared.end.EndLine.{EndLine}
 use Rattle.ele_runs.specs.declared.end.RunEnd.{RunEnd}
+use Rattle.ele_run_options.specs.declared.options.RunOptions.{RunOptions}
+use Rattle.ele_script.specs.Spells.{Asks}
+use Rattle.ele_script.specs.declared.reading.Line.TheVariants as asks
 use Rattle.ele_run_options.specs.declared.fault.ShellFault.{ShellFault}
 use Rattle.ele_run_options.specs.declared.fault.ShellFault.TheVariants.{NoMemory}
+
+-- the line has an answer, and asks for the event
+abbrev pub AsksEventIn : RunOptions → Option (List ℕ) → Event → Type 0
+AsksEventIn options None event = ⊥
+AsksEventIn options (Some line) event = (has_no_reply options line ≡ false) × Asks options.explain line (asks.Event event)
+
+-- the answer to an event: its reply, or the stop in its place
+abbrev pub event_said : Option Stop → Said
+event_said None = Replied
+event_said (Some stop) = Stopped stop
+
+-- the text of it, with the last reply
+abbrev pub IsEventText : Option Reply → Option Stop → List ℕ → Type 0
+IsEventText last None text = IsLastText last text
+IsEventText last (Some stop) text = text ≡ stop_text stop
+
+-- the number before an answer, if lines are numbered
+abbrev pub number_front : RunOptions → ℕ → List ℕ
+number_front options number = if options.numbers then decimal number ++ 32 ∷ [] else []
 
 -- the next line was heard: its answer, and the state then
 pub record HearsNext (before : RunState) (line : Option (List ℕ)) (said : Said) (after : RunState) : Type 0 where

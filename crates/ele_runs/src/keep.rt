@@ -2,7 +2,7 @@
 //! A contract sees the world with the last reply, or the history.
 ghost use Rattle.std.specs.Prelude.{◌≡◌};
 
-use crate::said::{Said, explain};
+use crate::said::{Said, explain, record_event};
 use ele_history::History;
 use ele_model::{Event, Explain, FromFlat, PassEnd, Stop};
 use ele_script::Question;
@@ -42,11 +42,10 @@ impl<C: Explain + FromFlat> Keep for History<C> {
 
     ghost kept = { Recorded };
 
-    #[tactic(auto, using(crate::proofs::Questions::stops_event))]
     fn hear_event(&mut self, event: Event) -> Said {
-        match self.record(event) {
-            Ok(_) => Said::Replied,
-            Err(stop) => Said::Stopped(stop),
+        match record_event(event, self) {
+            None => Said::Replied,
+            Some(stop) => Said::Stopped(stop),
         }
     }
 

@@ -3,18 +3,21 @@
 ghost use Rattle.std.specs.Prelude.{◌≡◌, ◌+◌, ◌<◌, ◌≤◌, ◌^◌, false, List, ℕ, IfOk};
 ghost use Rattle.std.specs.Option.{option_map};
 ghost use Rattle.ele_history.specs.Past.{fresh};
-ghost use Rattle.ele_output.specs.Outlet.{Outputs};
+ghost use Rattle.ele_output.specs.Outlet.{Outlet, Outputs};
 ghost use Rattle.ele_output.specs.Prints.{outlet};
-ghost use Rattle.ele_runs.specs.RunState.{begun, no_printer, noting};
+ghost use Rattle.ele_runs.specs.RunState.{begun, counted, no_printer, noting};
 ghost use Rattle.ele_runs.specs.Note.{IsNoted, cut_note};
 ghost use Rattle.ele_runs.specs.Block.{IsTextIn};
-ghost use Rattle.ele_runs.specs.Written.{HearsNext, PutsBlock};
+ghost use Rattle.ele_runs.specs.Written.{AsksEventIn, HearsNext, PutsBlock, event_said};
 
 use crate::note::{report_why, why_bad, why_cut};
-use crate::said::{Said, hear_kept, last_reply};
-use crate::tally::Tally;
+use crate::said::{
+    Said, asked_event, event_outcome, hear_kept, last_reply, put_event_answer, put_number_front,
+    record_event,
+};
+use crate::tally::{Outcome, Tally};
 use ele_history::History;
-use ele_model::{Explain, FromFlat, Limits};
+use ele_model::{Event, Explain, FromFlat, Limits, Stop};
 use ele_moment::NoMemory;
 use ele_output::Printer;
 use ele_run_options::RunOptions;
@@ -94,6 +97,17 @@ impl<C: Explain + FromFlat> Runner<C> {
         self.tally.copy()
     }
 
+    // Counts the next line, which is `None` if it is too long, by its outcome.
+    fn count(&mut self, line: Option<&[u8]>, outcome: Outcome)
+        requires { self.old.number + 1 < 2 ^ 64 }
+        ensures { self.new ≡ counted self.old self.old.past
+            (option_map (λ line. line.now) line.entry) outcome self.old.notes }
+    {
+        self.lines += 1;
+        let is_well = self.tally.add(self.lines, line, outcome);
+        self.has_ended = self.options.strict && !is_well;
+    }
+
     // Runs the next line, which is `None` if it is too long, and returns its answer.
     fn hear(&mut self, line: Option<&[u8]>) -> Said
         requires { self.old.number + 1 < 2 ^ 64 }
@@ -101,10 +115,22 @@ impl<C: Explain + FromFlat> Runner<C> {
     {
         let said = hear_kept(self.alloc, self.options, line, &mut self.history);
         let outcome = said.outcome(last_reply(&self.history));
-        self.lines += 1;
-        let is_well = self.tally.add(self.lines, line, outcome);
-        self.has_ended = self.options.strict && !is_well;
+        self.count(line, outcome);
         said
+    }
+
+    // Runs the next line, which asks for the event. Returns the stop, if one came in place of a reply.
+    #[tactic(auto, using(crate::proofs::Blocks::event_heard))]
+    fn hear_event(&mut self, line: Option<&[u8]>, event: Event) -> Option<Stop>
+        requires few { self.old.number + 1 < 2 ^ 64 }
+        requires asks { AsksEventIn self.old.options (option_map (λ line. line.now) line) event }
+        ensures { HearsNext self.old (option_map (λ line. line.now) line.entry)
+            (event_said result) self.new }
+    {
+        let stop = record_event(event, &mut self.history);
+        let outcome = event_outcome(stop, last_reply(&self.history));
+        self.count(line, outcome);
+        stop
     }
 
     // Prints why the line is bad, if it is bad and reasons are written.
@@ -141,6 +167,47 @@ impl<C: Explain + FromFlat> Runner<C> {
     /// Runs the next line, which is `None` if it is too long. Prints why it is bad, if it is bad and
     /// reasons are written, and its block.
     pub(crate) fn put_block<W: Write, E: Write>(
+        &mut self,
+        line: Option<&[u8]>,
+        printer: &mut Printer<'_, W>,
+        reasons: &mut Printer<'_, E>,
+    )
+        requires goes_on { self.old.ended ≡ false }
+        requires few { self.old.number + 1 < 2 ^ 64 }
+        ensures { PutsBlock (noting self.old (outlet E.contents reasons.old))
+            (option_map (λ line. line.now) line.entry)
+            (noting self.new (outlet E.contents reasons.new))
+            (outlet W.contents printer.old) (outlet W.contents printer.new) }
+    {
+        match asked_event(self.alloc, self.options, line) {
+            Some(event) => self.put_event(line, event, printer),
+            None => self.put_other(line, printer, reasons),
+        }
+    }
+
+    // The same for a line that asks for the event: most lines do, and only other answers take the
+    // stack that a `Said` needs.
+    fn put_event<W: Write>(
+        &mut self,
+        line: Option<&[u8]>,
+        event: Event,
+        printer: &mut Printer<'_, W>,
+    )
+        requires goes_on { self.old.ended ≡ false }
+        requires few { self.old.number + 1 < 2 ^ 64 }
+        requires asks { AsksEventIn self.old.options (option_map (λ line. line.now) line) event }
+        ensures { (notes : Outlet) → PutsBlock (noting self.old notes)
+            (option_map (λ line. line.now) line.entry) (noting self.new notes)
+            (outlet W.contents printer.old) (outlet W.contents printer.new) }
+    {
+        let stop = self.hear_event(line, event);
+        put_number_front(self.options, self.lines, printer);
+        put_event_answer(stop, last_reply(&self.history), printer);
+    }
+
+    // The same for any other line, and for one that no memory was there to read.
+    #[inline(never)]
+    fn put_other<W: Write, E: Write>(
         &mut self,
         line: Option<&[u8]>,
         printer: &mut Printer<'_, W>,

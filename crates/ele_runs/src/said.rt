@@ -1,14 +1,15 @@
 //! What a line is answered, and the text of it.
 //! A contract sees the answer, and what keeps the world before and after it.
-ghost use Rattle.std.specs.Prelude.{◌≡◌, Err, List, None, Option, ℕ};
+ghost use Rattle.std.specs.Prelude.{◌≡◌, Err, IfSome, List, None, Option, ℕ};
 ghost use Rattle.std.specs.Option.{option_copied, option_map};
 ghost use Rattle.ele_history.specs.Past.{world_of};
 ghost use Rattle.ele_model.specs.Why.{IsWhy};
 ghost use Rattle.ele_model.specs.declared.refusal.Refusal.TheVariants.{Forgotten};
 ghost use Rattle.ele_output.specs.Prints.{Prints};
 ghost use Rattle.ele_runs.specs.Kept.{Plain, Recorded, last_reply};
-ghost use Rattle.ele_runs.specs.Said.{Explains, HearsKept, IsLastText, IsText, MayMean, SaysAhead, has_no_reply, said_front};
+ghost use Rattle.ele_runs.specs.Said.{Explains, HearsKept, IsLastText, IsText, MayMean, Records, SaysAhead, has_no_reply, said_front};
 ghost use Rattle.ele_runs.specs.Tally.{outcome_for};
+ghost use Rattle.ele_runs.specs.Written.{AsksEventIn, IsEventText, event_said, number_front};
 ghost use Rattle.ele_script.specs.declared.reading.Question.TheVariants as question;
 
 use crate::keep::Keep;
@@ -18,7 +19,9 @@ use ele_audit::{
     put_why_gone, removed, removed_version, story, story_alone,
 };
 use ele_history::History;
-use ele_model::{Entry, Explain, Fate, FromFlat, KeyList, Moment, PassEnd, Refusal, Reply, Stop};
+use ele_model::{
+    Entry, Event, Explain, Fate, FromFlat, KeyList, Moment, PassEnd, Refusal, Reply, Stop,
+};
 use ele_output::Printer;
 use ele_path::{Path, TaggedPath};
 use ele_printer::{
@@ -115,7 +118,78 @@ fn hear<K: Keep>(alloc: Global, explains: bool, line: &[u8], keeper: &mut K) -> 
     }
 }
 
+/// Returns the event that a line asks for. `None` if it asks for none, or if memory to read it is
+/// refused.
+pub(crate) fn asked_event(alloc: Global, options: RunOptions, line: Option<&[u8]>) -> Option<Event>
+    ensures { IfSome result
+        (AsksEventIn options (option_map (λ line. line.now) line.entry)) }
+{
+    let line = line?;
+    if has_no_reply(options, line) {
+        return None;
+    }
+    match read_line_in(alloc, options.explain, line) {
+        Ok(Line::Event(event)) => Some(event),
+        _ => None,
+    }
+}
+
+/// Answers an event of a history. Returns the stop, if one came in place of a reply.
+#[tactic(auto, using(crate::proofs::Questions::stops_event))]
+pub(crate) fn record_event<C: Explain + FromFlat>(
+    event: Event,
+    history: &mut History<C>,
+) -> Option<Stop>
+    ensures { Records (Recorded history.old) event (event_said result) (Recorded history.new) }
+{
+    match history.record(event) {
+        Ok(_) => None,
+        Err(stop) => Some(stop),
+    }
+}
+
+/// By which word the answer to an event is told, with the last reply that is kept.
+pub(crate) fn event_outcome(stop: Option<Stop>, last: Option<&Reply>) -> Outcome
+    ensures { result ≡ outcome_for (option_copied last.entry) (event_said stop) }
+{
+    match (stop, last) {
+        (Some(_), _) => Outcome::Stopped,
+        (None, Some(Reply::Refused(_))) => Outcome::Refused,
+        (None, _) => Outcome::Well,
+    }
+}
+
+/// Puts the text of the answer to an event: the last reply that is kept, or the stop.
+pub(crate) fn put_event_answer<W: Write>(
+    stop: Option<Stop>,
+    last: Option<&Reply>,
+    printer: &mut Printer<'_, W>,
+)
+    ensures { (text : List ℕ) × IsEventText (option_copied last.entry) stop text
+        × Prints W.contents printer.old printer.new text }
+{
+    match stop {
+        None => put_last(last, printer),
+        Some(stop) => put_stop(stop, printer),
+    }
+}
+
+/// Puts the number of a line that has an answer, if lines are numbered.
+pub(crate) fn put_number_front<W: Write>(
+    options: RunOptions,
+    number: u64,
+    printer: &mut Printer<'_, W>,
+)
+    ensures { Prints W.contents printer.old printer.new (number_front options number) }
+{
+    if options.numbers {
+        put_in_front(number, printer);
+    }
+}
+
 /// Answers a question about a history.
+// Not inlined, so that only questions take the stack of their answers.
+#[inline(never)]
 #[tactic(auto, using(crate::proofs::Questions::ahead_recorded))]
 pub(crate) fn explain<C: Explain + FromFlat>(
     alloc: Global,
@@ -228,10 +302,7 @@ impl Said {
             Said::Bad(_) => Outcome::Bad,
             Said::Stopped(_) | Said::Passed(PassEnd::Stopped(_, _)) => Outcome::Stopped,
             Said::Why(Err(_)) | Said::Ahead(Err(_)) | Said::Story(Err(_)) => Outcome::Refused,
-            Said::Replied => match last {
-                Some(Reply::Refused(_)) => Outcome::Refused,
-                _ => Outcome::Well,
-            },
+            Said::Replied => event_outcome(None, last),
             _ => Outcome::Well,
         }
     }
@@ -247,8 +318,7 @@ impl Said {
     {
         match self {
             Said::Nothing => {}
-            _ if options.numbers => put_in_front(number, printer),
-            _ => {}
+            _ => put_number_front(options, number, printer),
         }
     }
 

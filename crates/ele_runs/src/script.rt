@@ -26,7 +26,7 @@ const MOST_LINES: u64 = 1_000_000;
 const MOST_BYTES: u64 = 8_589_934_592;
 
 /// So many bytes are read at a time, at most.
-const PIECE: usize = 65_536;
+const PIECE: usize = 8_192;
 
 // How many bytes may still come, or lines if these are fewer, as each line has a byte at least.
 fn left_of(room: u64, lines: u64) -> u64
@@ -155,17 +155,16 @@ pub fn run_in<C: Explain + FromFlat, R: Read, W: Write, E: Write>(
     ensures no_memory { IsErrOf result ShellFault.NoMemory
         → (reader.new ≡ reader.old) × (writer.new ≡ writer.old) × (reasons.new ≡ reasons.old) }
 {
-    let Ok(mut piece) = vec![in alloc; 0u8; PIECE] else {
-        return Err(ShellFault::NoMemory);
-    };
     let mut runner = Runner::<C>::new(alloc, limits, options)?;
-    run_printed(&mut runner, reader, writer, reasons, piece.as_mut_slice())
+    let mut piece = [0; PIECE];
+    run_printed(&mut runner, reader, writer, reasons, &mut piece)
 }
 
 /// Runs the script that the reader gives: answers each whole line at the writer, and answers how
 /// many lines there were, a last one without its line feed counted. An empty line gets no reply, a
 /// line of more than 8,192 bytes only that it is too long, and a last line without its line feed is
-/// never run. The core stands in `alloc`, and the pieces that are read. The writer is not flushed.
+/// never run. The core stands in `alloc`, and the pieces that are read on the stack, 8 KiB at a time.
+/// The writer is not flushed.
 ///
 /// Before it reads on it has handed the answers to all whole lines that it was given to the writer.
 ///

@@ -113,6 +113,7 @@ asks_of command.Mark false x = (asks.Event (event.Mark x.first x.rest.first None
 asks_of command.Mark true x = (asks.Event (event.Mark x.first x.rest.first (Some x.rest.rest.first)), refl, refl)
 asks_of command.Unmark ended x = (asks.Event (event.Unmark x.first x.rest.first), refl, refl)
 asks_of command.Clean ended x = (asks.Event event.CleanOne, refl, refl)
+asks_of command.Note ended x = (asks.Event (event.Note x.first), refl, refl)
 asks_of command.Read ended x = (asks.Event (event.Read x.first), refl, refl)
 asks_of command.Stat ended x = (asks.Event (event.Stat x.first), refl, refl)
 asks_of command.Versions ended x = (asks.Event (event.Versions x.first), refl, refl)

@@ -94,6 +94,13 @@ pub(crate) fn path(alloc: Global, words: &[&[u8]]) -> Result<Path, LineFault>
     word::path(alloc, one(words)?)
 }
 
+pub(crate) fn bytes(alloc: Global, words: &[&[u8]]) -> Result<ByteList, LineFault>
+    ensures { Reads (BytesWord ∷ []) (λ bytes. value.Bytes bytes ∷ [])
+        (map (λ word. word.now) words.now) result }
+{
+    word::bytes(alloc, one(words)?)
+}
+
 pub(crate) fn tagged(alloc: Global, words: &[&[u8]]) -> Result<TaggedPath, LineFault>
     ensures { Reads (TaggedWord ∷ []) (λ tagged. value.Tagged tagged ∷ [])
         (map (λ word. word.now) words.now) result }

@@ -28,6 +28,7 @@ fn first_row(letter: u8) -> usize
         b'h' => Command::History as usize,
         b'l' => Command::Link as usize,
         b'm' => Command::Mark as usize,
+        b'n' => Command::Note as usize,
         b'o' => Command::OpenWrite as usize,
         b'p' => Command::Pass as usize,
         b'r' => Command::Read as usize,

@@ -10,7 +10,7 @@ ghost use Rattle.ele_script.specs.Reads.{ReadsLine};
 ghost use Rattle.ele_script.specs.FirstFault.{IsFirstFault, IsEventFault, IsFaultOfWords};
 
 use crate::arguments::{
-    handle, handle_and_number, handle_number_and_bytes, moment, name, name_and_moment,
+    bytes, handle, handle_and_number, handle_number_and_bytes, moment, name, name_and_moment,
     name_and_path, name_moment_and_end, nothing, number, path, path_and_bytes, path_and_moment,
     path_and_policy, path_and_version, path_at, source, tagged, two_paths,
 };
@@ -278,6 +278,7 @@ fn line_behind_any(alloc: Global, command: Command, words: &[&[u8]]) -> Result<L
             read.map(|(name, moment)| Line::Event(Event::Unmark(name, moment)))
         }
         Command::Clean => nothing(words).and(Ok(Line::Event(Event::CleanOne))),
+        Command::Note => bytes(alloc, words).map(|bytes| Line::Event(Event::Note(bytes))),
         Command::Read => source(alloc, words).map(|source| Line::Event(Event::Read(source))),
         Command::Stat => tagged(alloc, words).map(|path| Line::Event(Event::Stat(path))),
         Command::Versions => path_at(alloc, words).map(|path| Line::Event(Event::Versions(path))),

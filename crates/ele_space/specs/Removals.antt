@@ -1,6 +1,6 @@
 -- Which versions are due at moments, and what their removal frees.
-use Rattle.std.specs.Prelude.{◌≡◌, ℕ, Bool, true, false, List, [], ◌∷◌, ◌++◌, codes, decimal, length}
-use Rattle.std.specs.List.{AllZip, flat_map}
+use Rattle.std.specs.Prelude.{◌≡◌, ℕ, Bool, true, false, List, [], ◌∷◌, ◌++◌, codes, decimal, length, map}
+use Rattle.std.specs.List.{AllZip, flat_map, join_with_byte}
 use Rattle.ele_policy.specs.PolicyText.{policy_word}
 use Rattle.ele_policy.specs.declared.policy.Policy.{Policy}
 use Rattle.ele_forecast.specs.declared.forecast.Forecast.{Forecast}
@@ -10,6 +10,7 @@ use Rattle.ele_forecast_text.specs.Stamp.{stamp_of}
 use Rattle.ele_forecast_text.specs.declared.details.Details.{Details}
 use Rattle.ele_forecast_text.specs.declared.plan.Plan.{Plan}
 use Rattle.ele_forecast_text.specs.declared.staying.Staying.{Staying}
+use Rattle.ele_forecast_forms.specs.Json.{policy_field, staying_text}
 use Rattle.ele_space.specs.declared.removals.Removals.{Removals}
 
 -- the versions that have closed by the moment at which those of `staying` stay, and are due then
@@ -40,3 +41,13 @@ due_line named details policy due = codes "at " ++ (stamp_of due.at ++ (policy_p
 abbrev pub removals_text : Bool → Details → List Removals → List ℕ
 removals_text named details removals =
     flat_map (λ removal. flat_map (due_line named details removal.policy) removal.due.items) removals
+
+-- the versions that are due under a policy, as an object of JSON
+abbrev pub removal_json : Details → Removals → List ℕ
+removal_json details removal =
+    10 ∷ (policy_field removal.policy ++ (codes ",\"at\":[" ++ (join_with_byte 44 (map (staying_text details) removal.due.items) ++ codes "]}")))
+
+-- these, as a member of an object that others follow
+abbrev pub removals_member : Details → List Removals → List ℕ
+removals_member details removals =
+    codes "\"removals\":[" ++ (join_with_byte 44 (map (removal_json details) removals) ++ codes "\n],\n")

@@ -3,9 +3,11 @@
 #![tactic(auto)]
 
 mod amounts;
+mod json;
 mod removals;
 mod text;
 
 pub use amounts::{Amount, Amounts, amounts_at, moments_in};
+pub use json::put_removals_member;
 pub use removals::{Removals, put_removals, removals_of};
 pub use text::{put_amounts, put_amounts_csv};

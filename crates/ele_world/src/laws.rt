@@ -47,7 +47,6 @@ pub fn change_keeps_well_formed()
 }
 
 /// An event that is refused changes nothing.
-#[tactic(auto, using(ele_model::proofs::PlanOutcomes::refused_stays))]
 pub fn refused_stays()
     ensures { RefusedStays }
 {}

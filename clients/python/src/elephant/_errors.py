@@ -132,7 +132,7 @@ class NotWriter(Refused, number=16):
 
 
 class TooBig(Refused, number=17):
-    """The content would be longer than 1,048,576 bytes."""
+    """The content would be longer than 1,048,576 bytes, or the note than 200."""
 
 
 class Drafting(Refused, number=18):

@@ -295,6 +295,14 @@ class Store(Checkpoints):
             core = self._begin()
             return core.look(core.library.elephant_trim, "trim")
 
+    def note(self, text: str | bytes) -> None:
+        """Puts a text of at most 200 bytes into the history: who makes the next changes, say, and why. It changes nothing else. A string is
+        written as UTF-8. Raises TooBig."""
+        data = text.encode() if isinstance(text, str) else bytes(text)
+        with self._lock, self._change as core:
+            core.do(core.library.elephant_note, text, data, len(data))
+            self._keep(b"note " + (data.hex().encode() or b"-"))
+
     def dump(self) -> Iterator[str]:
         """Yields the policies, defaults, groups and marks as lines of the script language. What a line can't say is a remark, which
         begins with `#`."""

@@ -99,6 +99,10 @@ class KeepingStore(Store):
     def note_change(self, now: int, lines: Sequence[bytes]) -> None:
         """Notices a change, before the journal gets its lines; `now` is the store's moment."""
 
+    def preface(self) -> Sequence[bytes]:
+        """Returns lines that stand before those of the next change, and change nothing."""
+        return ()
+
     def note_written(self, lines: Sequence[bytes]) -> None:
         """Notices a change that the journal has got at last: `retry` wrote it."""
 
@@ -228,6 +232,8 @@ class KeepingStore(Store):
         if self._gathered is not None:
             self._gathered += lines
             return
+        if lines:
+            lines = (*self.preface(), *lines)
         self.note_change(self._now, lines)
         self.unsynced = True
         if self._unkept or self._is_broken:

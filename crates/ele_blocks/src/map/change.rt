@@ -10,7 +10,6 @@ ghost use Rattle.ele_blocks.specs.Pieces.{pieces_between};
 ghost use Rattle.ele_blocks.specs.Renewed.{IsReplaced};
 
 use crate::block::Block;
-use crate::laid::lay_leaves;
 use crate::leaf::LEAF;
 use crate::map::BlockMap;
 use crate::patch::{patched, pieces};
@@ -207,12 +206,12 @@ impl BlockMap {
             first,
             staged,
         } = change;
-        let leaves = self.leaves.len();
+        let leaves = self.list.as_slice().len();
         let past = (first + staged.len()).div_ceil(LEAF);
         let run = run_of(first, past, kept, leaves);
         let Run { from, met, to } = run;
-        self.leaves.reserve(past.saturating_sub(leaves))?;
-        let mut window = store.slots_in(&self.leaves[from..met])?;
+        self.list.reserve(self.alloc, past.max(leaves))?;
+        let mut window = store.slots_in(&self.list.as_slice()[from..met])?;
         window.truncate(kept - LEAF * from);
         let stage = Stage {
             window,
@@ -220,10 +219,9 @@ impl BlockMap {
             writer,
             staged,
         };
-        let now = store.renew(&self.leaves[from..to], stage)?;
-        lay_leaves(&mut self.leaves, from, &now);
-        self.leaves.truncate(from + now.len() + (leaves - to));
-        self.length = size;
+        let now = store.renew(&self.list.as_slice()[from..to], stage)?;
+        let count = from + now.len() + (leaves - to);
+        self.list.lay(size, from, &now, count);
         Ok(())
     }
 }

@@ -6,6 +6,8 @@ ghost use Rattle.ele_content.specs.Content.{longest_content};
 ghost use Rattle.ele_blocks.specs.LivesIn.{fills};
 ghost use Rattle.ele_blocks.specs.Made.{HasBlock, IsMade, cell_for};
 
+use crate::leaf::LEAF;
+use crate::leaf_list::LeafList;
 use crate::map::BlockMap;
 use crate::new_slot::NewSlot;
 use crate::store::BlockStore;
@@ -32,11 +34,12 @@ impl BlockMap {
         ensures made { IfOk result (IsMade store.old store.new size slots.items) }
         ensures err { OnErr result (store.new ≡ store.old) }
     {
+        let mut list = LeafList::new();
+        // Before the store changes, since memory may be refused here.
+        list.reserve(alloc, slots.len().div_ceil(LEAF))?;
         let leaves = store.put_slots(slots)?;
-        Ok(BlockMap {
-            length: size,
-            leaves,
-            alloc,
-        })
+        let count = leaves.len();
+        list.lay(size, 0, &leaves, count);
+        Ok(BlockMap { list, alloc })
     }
 }

@@ -113,6 +113,8 @@ def changing(method: Callable[..., Any]) -> Callable[..., Any]:
 
     def checked(self: Answering, *words: Any) -> Any:
         self.require_writable()
+        if isinstance(words[-1], pyfuse3.RequestContext):
+            self.store.who.asks(words[-1])
         try:
             return method(self, *words)
         except Exception as fault:

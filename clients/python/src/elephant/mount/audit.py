@@ -7,14 +7,22 @@ and the contents that a journal that was made anew has left out.
 
 from __future__ import annotations
 
+import re
 from typing import Optional
 
-from .. import ElephantError, Limits, Removal, Store
+from .. import ElephantError, Limits, Refused, Removal, Store, VersionStory
 from .store import MountStore
 
 # Lines of a store with a history.
 LINES = frozenset(("answers", "gone", "handles", "history", "trim"))
 NO_HISTORY = "this mount keeps no history: mount the folder with --history, and it has all since the journal began"
+
+_NOTE = re.compile(r"^- note ([0-9a-f]+)$", re.M)
+
+
+def _with_text(note: re.Match[str]) -> str:
+    text = bytes.fromhex(note[1]).decode("utf-8", "replace")
+    return f"{note[0]}  {text}" if text.isprintable() else note[0]
 
 
 class Audit:
@@ -35,13 +43,27 @@ class Audit:
             self._asked()
 
     def line(self, line: str) -> str:
-        """Returns the answer of the store with the history."""
-        return self._asked().line(line) if self.is_kept else f"elephant-mount: {NO_HISTORY}\n"
+        """Returns the answer of the store with the history. Behind a note of `answers` stands its text."""
+        if not self.is_kept:
+            return f"elephant-mount: {NO_HISTORY}\n"
+        answer = self._asked().line(line)
+        return _NOTE.sub(_with_text, answer) if line == "answers" else answer
 
     def removals(self, file: int) -> dict[int, Removal]:
         """Returns the removed versions of a file, with the causes. Without a history it returns none."""
         rows = self._asked().gone().removals if self.is_kept else ()
         return {it.number: it for it in rows if it.file == file}
+
+    def story(self, path: bytes, file: int) -> dict[int, VersionStory]:
+        """Returns what the history tells of a file that has the path, or had it last: its versions by number. Without a history, or if
+        the path leads to another file, it returns none."""
+        if not self.is_kept:
+            return {}
+        try:
+            found = self._asked().story(path)
+        except Refused:
+            return {}
+        return {it.number: it for it in found.versions} if found.file == file else {}
 
     def close(self) -> None:
         """Frees the memory."""

@@ -184,6 +184,7 @@ class Cleaner:
 
     def _remove_some(self, may_go: Optional[set[VersionName]]) -> int:
         deadline, removed = time.monotonic() + MOST_AT_ONCE, 0
+        self.store.who.mount()
         keys = self.store.first_due(MOST_KEYS)
         if keys and self.operations.readers.hold():
             keys = self.store.first_due(MOST_KEYS)
@@ -213,6 +214,7 @@ class Cleaner:
         first = [key for key in due if named(key) not in may_go and named(key) not in self._held]
         if not first or len(first) + len(self._held) > MOST_HELD:
             return
+        self.store.who.mount()
         if sum(named(key) in may_go for key in due if key > first[0]) > MANY:
             for key in first:
                 self._hold(key)

@@ -9,6 +9,7 @@ import os
 import shutil
 import socket
 import stat
+import struct
 import tempfile
 import threading
 import traceback
@@ -39,8 +40,8 @@ MOST_FOLDER = 100
 # Lines after which the tree may differ, and lines that change nothing.
 # Printed by tools/pages/surface --write: the lines, from ele_commands/src/command.rt and ele_model/specs/NothingChanges.antt.
 _ASK = frozenset((
-    "due", "groups", "list", "read", "restorable", "stat", "usage", "versions", "history", "trim", "ahead", "answers", "gone", "handles",
-    "story", "why",
+    "due", "groups", "list", "read", "restorable", "stat", "usage", "versions", "history", "note", "trim", "ahead", "answers", "gone",
+    "handles", "story", "why",
 ))
 _SHORT = frozenset(("clean", "default", "group", "mark", "pass", "policy", "unmark"))
 # End of the lines.
@@ -76,8 +77,8 @@ class Lines:
         self.more: dict[str, Callable[[], str]] = {}
         """Lines of the mount's own, without words, that are answered without the lock."""
 
-    def answer(self, line: str) -> tuple[str, Changes]:
-        """Returns the answer to a line, with line feeds, and what it changed in the tree."""
+    def answer(self, line: str, caller: Optional[tuple[int, int]] = None) -> tuple[str, Changes]:
+        """Returns the answer to a line, with line feeds, and what it changed in the tree. `caller`: the user and the process that sent it."""
         if line in self.more:
             return self.more[line](), []
         try:
@@ -87,6 +88,8 @@ class Lines:
         except ValueError as fault:
             return self._refusal(fault), []
         with self.operations.lock:
+            if caller:
+                self.store.who.caller(*caller)
             changes: Changes = []
             try:
                 try:
@@ -303,7 +306,8 @@ class Control:
                 return
             received += piece
         line = received.partition(b"\n")[0].decode("utf-8", "surrogateescape")
-        answer, changes = self._lines.answer(line)
+        process, user, _ = struct.unpack("3i", caller.getsockopt(socket.SOL_SOCKET, socket.SO_PEERCRED, 12))
+        answer, changes = self._lines.answer(line, (user, process))
         self._changed(changes)
         caller.sendall(answer.encode("utf-8", "surrogateescape"))
 

@@ -53,6 +53,8 @@ OWN = {
         ("history FILE", "history FILE --json", "history"),
         ("Lists the versions of a file, also of a deleted one: when each was saved and ended, its length, until when it is kept and by "
          "what (its policy, or a mark), or when it was removed. If the file had other names, they follow. With --json it is for programs.",
+         "A mount with --history also tells when a removed version was saved and ended, its length and why it was removed, and which mark "
+         "held a version after its policy had let it go.",
          f"Without a FILE it lists the changes since the journal began. {_HISTORY}"),
         ("history letter", "history letter --json"),
     ),

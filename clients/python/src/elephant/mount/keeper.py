@@ -83,6 +83,7 @@ class Keeper:
     def settle(self) -> None:
         """Makes versions of what long sessions have written so far."""
         with self.operations.lock:
+            self.store.who.mount()
             faults = [] if self.store.stopped else self.operations.contents.settle_all()
         for _, fault in faults:
             self._say(fault)

@@ -101,6 +101,11 @@ COMMANDS: dict[str, tuple[str, str, str]] = {
         "mkdir P", "ok directory D",
         "Makes a directory. Its default is that of the directory that it is in. Exists if the name is in use.",
     ),
+    "note": (
+        "note X", "ok done",
+        "Puts the bytes X, at most 200, into the history: who makes the next changes, say, and why. It changes nothing else, and "
+        "'history' and 'answers' print it. X is two hexadecimal digits for each byte: 6f7073 is ops. TooBig if it is longer.",
+    ),
     "open write": (
         "open write P", "ok handle H",
         "Opens a handle that writes the file's draft, which all writers share. Handles are numbered from 1 over all files. 'close' saves "

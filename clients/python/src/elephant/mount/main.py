@@ -37,6 +37,7 @@ def _parser() -> argparse.ArgumentParser:
     words.add_argument("--clean-every", type=float, default=60, metavar="SECONDS", help="remove what is due, as often as this; 0: never")
     words.add_argument("--no-guard", action="store_true", help="remove what is due at once, also after a mount, and however much it is")
     words.add_argument("--history", action="store_true", help="answer gone, answers, handles and history, for an audit")
+    words.add_argument("--who", action="store_true", help="write notes into the journal of who makes the changes: user and program")
     words.add_argument("--allow-other", action="store_true", help="let other users in, as far as the modes let them")
     words.add_argument("--read-only", action="store_true", help="only look: nothing is written or removed, and the clock is stopped")
     words.add_argument("--moment", metavar="TIME", help="with --read-only: the moment of the stopped clock, if not the journal's last one")
@@ -159,6 +160,7 @@ def run(asked: argparse.Namespace) -> int:
         times = asked.clean_every, asked.every
         mount = Mount(Asked(
             folder, journal, _limits(asked.limit), *times, asked.read_only, older, not asked.no_guard, asked.moment, asked.history,
+            asked.who,
         ))
     except JournalLocked:
         return _refuse(f"{journal} is mounted already, or another program has it open")

@@ -44,6 +44,7 @@ class Asked(NamedTuple):
     is_guarded: bool = True
     moment: Optional[str] = None
     has_history: bool = False
+    says_who: bool = False
 
 
 class Mount:
@@ -52,6 +53,7 @@ class Mount:
     def __init__(self, asked: Asked) -> None:
         self.folder, self.log, self.loop = asked.folder, Log(), Loop()
         self.store = MountStore(asked.journal, asked.limits, asked.is_read_only, at=asked.moment)
+        self.store.who.is_asked = asked.says_who
         self._say_recovered()
         self.tree = Tree(self.store)
         self.contents = Contents(self.store, self.tree)

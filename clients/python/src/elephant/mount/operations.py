@@ -148,7 +148,7 @@ class Operations(Answering):
                     return info
         except MemoryError:
             raise pyfuse3.FUSEError(errno.ENOMEM) from None
-        return await self._open(ino, flags)
+        return await self._open(ino, flags, context)
 
     async def flush(self, handle: int) -> None:
         if handle & 1:
@@ -336,10 +336,13 @@ class Operations(Answering):
     def _opened(self, node: File, flags: int, is_cut: bool = False) -> int:
         writes = flags & os.O_ACCMODE != os.O_RDONLY
         self.contents.opened(node, writes, is_cut)
-        return node.ino * 2 + writes
+        handle = node.ino * 2 + writes
+        if writes:
+            self.store.who.opened(handle)
+        return handle
 
     @answered
-    def _open(self, ino: int, flags: int) -> Any:
+    def _open(self, ino: int, flags: int, context: Any) -> Any:
         node = self.by_ino.get(ino)
         if not isinstance(node, File):
             return self._open_past(ino, flags)
@@ -347,6 +350,7 @@ class Operations(Answering):
             raise OSError(errno.ESTALE, "")
         if flags & _CHANGES:
             self.require_writable()
+            self.store.who.asks(context)
         return self._info(self._opened(node, flags, bool(flags & os.O_TRUNC)), True)
 
     def _open_past(self, ino: int, flags: int) -> Any:
@@ -376,23 +380,30 @@ class Operations(Answering):
 
     @changing
     def write(self, handle: int, offset: int, data: bytes) -> int:
+        self.store.who.goes_on(handle)
         return self.contents.write(self._file(handle), offset, data)
 
     @answered
     def _flush(self, handle: int) -> None:
         if handle < FIRST_PAST_HANDLE:
+            self.store.who.goes_on(handle)
             self.contents.save(self._file(handle))
 
     @answered
     def _release(self, handle: int) -> None:
         if handle < FIRST_PAST_HANDLE:
-            self.contents.closed(self._file(handle), bool(handle & 1))
+            self.store.who.goes_on(handle)
+            node = self._file(handle)
+            self.contents.closed(node, bool(handle & 1))
+            if not node.writers:
+                self.store.who.forget(handle)
             return
         self.readers.release(handle)
 
     @answered
     def fsync(self, handle: int, only_data: bool) -> None:
         if handle < FIRST_PAST_HANDLE:
+            self.store.who.goes_on(handle)
             self.contents.save(self._file(handle))
             self.store.sync_journal()
 

@@ -19,12 +19,13 @@ from .drafts import Drafts
 from .memory import KEPT, SAVING, Memory
 from .records import Records
 from .timeline import OF_TREE, Moments, Removals
+from .who import Who
 from .witness import Witness
 
 CLOCK_IS_RIGHT = "time is right"
 READ_ONLY = "the folder was mounted with --read-only"
 # Lines that end no name and restore none. A removal of the last version of a file without a name may: `forget_names` is for that.
-_OF_CONTENTS = (b"# ", b"clock ", b"write ", b"truncate ", b"open ", b"close ", b"abandon ", b"save ", b"clean", b"pass ")
+_OF_CONTENTS = (b"# ", b"clock ", b"write ", b"truncate ", b"open ", b"close ", b"abandon ", b"save ", b"clean", b"pass ", b"note ")
 _REMOVALS = (b"unlink", b"rmdir")
 _ENDS = (*_REMOVALS, b"rename")
 _CLEANS = (b"clean", b"pass")
@@ -111,7 +112,7 @@ class MountStore(KeepingStore):
     def __init__(
         self, journal: str, limits: Optional[Limits] = None, read_only: bool = False, clock: Clock = "system", at: Optional[str] = None
     ) -> None:
-        self.records = Records()
+        self.records, self.who = Records(), Who()
         self.quota = Counts(limits or Limits(), self._made)
         self.chronicle = Chronicle()
         self.memory = Memory()
@@ -144,6 +145,9 @@ class MountStore(KeepingStore):
         for line in lines:
             if line.startswith(b"# "):
                 self.records.apply(line[2:])
+
+    def preface(self) -> Sequence[bytes]:
+        return self.who.news()
 
     def withheld(self) -> Iterator[Lines]:
         return iter(self.drafts.deferred.values())

@@ -6,7 +6,7 @@ import json
 from collections.abc import Iterator, Mapping, Sequence
 from typing import Any, NamedTuple, Optional, Union
 
-from .. import LAST_MOMENT, Cause, Current, Due, Fate, KeepSafe, Kept, Landmarks, Marked, Policy, Removal, Removed, Version
+from .. import LAST_MOMENT, Cause, Current, Due, Fate, KeepSafe, Kept, Landmarks, Marked, Policy, Removal, Removed, Version, VersionStory
 from ..keeping import span
 from .audit import Audit
 from .log import local
@@ -22,11 +22,22 @@ _HEAD = "version  saved                ended                    bytes"
 
 
 class Chapter(NamedTuple):
-    """A version: its row if it is held, and what became of it."""
+    """A version: its row if it is held, what became of it, and what a history tells of it."""
 
     number: int
     row: Optional[Version]
     fate: Union[Fate, Removal, NotedRemoval, None]
+    told: Optional[VersionStory] = None
+
+    @property
+    def known(self) -> Union[Version, VersionStory, None]:
+        """Its moments and its length, which without a history only a held version has."""
+        return self.told if self.row is None else self.row
+
+    @property
+    def held(self) -> Optional[Marked]:
+        """The mark that held it after its policy had let it go."""
+        return None if self.told is None else self.told.held
 
 
 class Stories:
@@ -84,16 +95,19 @@ class Stories:
         noted, removed, last = self._store.removals.of(file), self._audit.removals(file), self._store.departed.get(file)
         node = self._tree.files.get(file)
         newest = node.version if node is not None else max([*held, *noted, last.version if last else 0])
+        path = node.path if node is not None else last.path if last else None
+        story = {} if path is None else self._audit.story(path, file)
         ends = {} if node is not None else {it.number: it.since for it in self._store.ahead(LAST_MOMENT) if it.file == file}
         for number in range(1, newest + 1):
             row = held.get(number)
             if row is None:
-                yield Chapter(number, None, removed.get(number) or noted.get(number))
+                yield Chapter(number, None, removed.get(number) or noted.get(number), story.get(number))
             elif node is not None:
-                yield Chapter(number, row, self._store.why(node.path, version=number))
+                yield Chapter(number, row, self._store.why(node.path, version=number), story.get(number))
             else:
                 end = ends.get(number)
-                yield Chapter(number, row, Due(end) if end is not None and end <= self._store.now else Kept(end, None))
+                fate = Due(end) if end is not None and end <= self._store.now else Kept(end, None)
+                yield Chapter(number, row, fate, story.get(number))
 
     def _names(self, file: int) -> Iterator[dict[str, Optional[str]]]:
         """Yields the names that a file had, each with its end, and then those that it has."""
@@ -108,11 +122,16 @@ class Stories:
 
 def _row(it: Chapter, policy: Optional[Policy], is_deleted: bool) -> str:
     """Returns a row of the table."""
-    if it.row is None:
-        return f"{it.number:>7}  {'-':<19}  {'-':<19}  {'-':>9}  {_of_removed(it.fate)}"
-    ended = "-" if it.row.ended is None else local(int(it.row.ended))
-    told_fate = _of_held(it.fate, it.row, policy, is_deleted)
-    return f"{it.number:>7}  {local(int(it.row.closed))}  {ended:<19}  {it.row.length:>9,}  {told_fate}"
+    fate = _of_removed(it.fate) if it.row is None else _of_held(it.fate, it.row, policy, is_deleted)
+    if it.held is not None:
+        fate += f"; the mark {it.held.group} of {local(int(it.held.at))} held it until then"
+    closed, ended = (_moment(getattr(it.known, name, None)) for name in ("closed", "ended"))
+    length = getattr(it.known, "length", None)
+    return f"{it.number:>7}  {closed:<19}  {ended:<19}  {'-' if length is None else f'{length:,}':>9}  {fate}"
+
+
+def _moment(moment: Optional[int]) -> str:
+    return "-" if moment is None else local(int(moment))
 
 
 def _of_removed(fate: Union[Fate, Removal, NotedRemoval, None]) -> str:
@@ -166,8 +185,10 @@ def _as_data(it: Chapter, policy: Optional[Policy], has_name: bool) -> dict[str,
     """Returns a version as JSON has it: moments in UTC, and None for what isn't known or doesn't end."""
     row, fate = it.row, it.fate
     data: dict[str, Any] = {"number": it.number, "held": row is not None, "opened": None, "closed": None, "ended": None, "length": None}
+    if it.known is not None:
+        data.update(closed=_utc(it.known.closed), ended=_utc(it.known.ended), length=it.known.length)
     if row is not None:
-        data.update(opened=_utc(row.opened), closed=_utc(row.closed), ended=_utc(row.ended), length=row.length)
+        data["opened"] = _utc(row.opened)
     if isinstance(fate, (Removed, Removal, NotedRemoval)):
         data["fate"] = {"is": "removed", "moment": _utc(fate.moment), "since": _utc(fate.since)}
         data["fate"]["cause"] = None if isinstance(fate, NotedRemoval) else _because(fate)
@@ -181,6 +202,8 @@ def _as_data(it: Chapter, policy: Optional[Policy], has_name: bool) -> dict[str,
         data["fate"] = {"is": "kept", "until": _utc(fate.until), "policy": policy and policy.word}
     else:
         data["fate"] = {"is": str(fate)}
+    if it.held is not None:
+        data["fate"]["mark"] = {"group": it.held.group, "at": _utc(it.held.at), "until": _utc(it.held.until)}
     return data
 
 

@@ -1,7 +1,7 @@
 use Rattle.std.specs.Prelude.{filter}
 use Rattle.ele_audit.proofs.Basics.{arith}
 use Rattle.ele_audit.proofs.Gathers.{gathers_new, kept_done, kept_more}
-use Rattle.ele_audit.specs.LivePath.{is_name_to}
+use Rattle.ele_name_paths.specs.LivePath.{is_name_to}
 use Rattle.ele_audit.specs.Story.{IsNameStory}
 use Rattle.ele_model.specs.declared.rows.Target.TheVariants.{File}
 use Rattle.ele_audit.proofs.seen.names_of.Goals as goal

@@ -1,5 +1,5 @@
 use Rattle.ele_audit.proofs.Basics.{arith}
-use Rattle.ele_audit.proofs.Lasts.{last_begin, last_done, last_more}
+use Rattle.ele_name_paths.proofs.Lasts.{last_begin, last_done, last_more}
 use Rattle.ele_model.specs.NameRows.{is_named}
 use Rattle.ele_audit.proofs.story_file.newest.Goals as goal
 

@@ -1,5 +1,5 @@
 use Rattle.ele_audit.proofs.Basics.{drop}
-use Rattle.ele_audit.proofs.Lasts.{IsLastSoFar}
+use Rattle.ele_name_paths.proofs.Lasts.{IsLastSoFar}
 use Rattle.ele_model.specs.NameRows.{is_named}
 use Rattle.ele_audit.proofs.story_file.newest.Given as goal
 

@@ -31,6 +31,10 @@ pub returns-in-109-clause-finds : goal.returns-in-109-clause-finds
 unfolding command_of
 returns-in-109-clause-finds c = λ word words. rw c.in-109.is refl
 
+pub returns-in-110-clause-finds : goal.returns-in-110-clause-finds
+unfolding command_of
+returns-in-110-clause-finds c = λ word words. rw c.in-110.is refl
+
 pub returns-in-111-clause-finds : goal.returns-in-111-clause-finds
 unfolding command_of
 returns-in-111-clause-finds c = λ word words. rw c.in-111.is refl
@@ -65,4 +69,4 @@ returns-in-119-clause-finds c = λ word words. rw c.in-119.is refl
 
 pub returns-in_default-clause-finds : goal.returns-in_default-clause-finds
 returns-in_default-clause-finds c =
-    none_begin c.args.letter (omega arith) (omega arith) (omega arith) (omega arith) (omega arith) (omega arith) (omega arith) (omega arith) (omega arith) (omega arith) (omega arith) (omega arith) (omega arith) (omega arith) (omega arith)
+    none_begin c.args.letter (omega arith) (omega arith) (omega arith) (omega arith) (omega arith) (omega arith) (omega arith) (omega arith) (omega arith) (omega arith) (omega arith) (omega arith) (omega arith) (omega arith) (omega arith) (omega arith)

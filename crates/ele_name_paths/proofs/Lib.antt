@@ -1,0 +1,4 @@
+mod Basics
+pub mod Gathers
+pub mod Lasts
+mod Paths
