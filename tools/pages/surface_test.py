@@ -99,7 +99,7 @@ OF_FILES = [
     Planted(version.CRATE, '\nversion = "', '\nversion = "1', (version.CRATE,)),
     Planted(version.CRATE, "\nlicense-file = ", "\nlicense = ", (version.CRATE,)),
     Planted(docs.OF_EVENTS[0], "Each of the 36 events", "Each of the 34 events", (docs.OF_EVENTS[0],)),
-    Planted(docs.OF_EVENTS[1], "each of the 36 events", "each of the 36 events", (docs.OF_EVENTS[1],)),
+    Planted(docs.OF_EVENTS[1], "each of the 36 events", "each of the 34 events", (docs.OF_EVENTS[1],)),
 ]
 ALL_OF_A_REFUSAL = (HEADER, python.ERRORS, python.NAMES, rust.SYS, rust.ERRORS, docs.ERRORS)
 # A fault, or something new, of a source.
