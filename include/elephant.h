@@ -96,7 +96,7 @@ enum elephant_code {
     ELEPHANT_ALREADY_MEMBER = 25,  /* the file is in the group already */
     ELEPHANT_NOT_MEMBER = 26,      /* the file isn't in the group */
     ELEPHANT_FULL = 27,            /* a limit is reached, for good; detail: which, an enum elephant_limit */
-    ELEPHANT_NOT_AHEAD = 41,       /* the end of a mark must be later than now, and the moment of 'ahead' not earlier */
+    ELEPHANT_NOT_AHEAD = 41,       /* the end of a mark must be later than now, the moment of 'ahead' not earlier, nor the second of 'changes' than its first */
 
     /* An argument is not valid. If several are not, the code is that of the first one. */
     ELEPHANT_BAD_NAME = 28,        /* a name has 1 to 64 bytes without /, @ and #, and isn't . or .. */
@@ -115,7 +115,10 @@ enum elephant_code {
     ELEPHANT_NO_ROOM = 70,         /* the buffer is too small, and nothing is copied */
     ELEPHANT_UNTOLD = 71,          /* the line was run, but there was no memory for the text of its answer */
     ELEPHANT_BAD_CHECKPOINT = 72,  /* the bytes are no checkpoint of a store */
-    ELEPHANT_HANDLES_OPEN = 73     /* a handle is open */
+    ELEPHANT_HANDLES_OPEN = 73,    /* a handle is open */
+    ELEPHANT_NO_JOURNAL = 74,      /* the store has no journal */
+    ELEPHANT_HAS_JOURNAL = 75,     /* the store has a journal */
+    ELEPHANT_BAD_JOURNAL = 76      /* the bytes are no file of a store */
 };
 /* End of the codes. */
 
@@ -173,8 +176,9 @@ int32_t elephant_open_largest(elephant *e, uint32_t history);
 /* Drops the store and frees its memory; you can open the handle again. A closed handle stays closed. */
 void elephant_close(elephant *e);
 
-/* Returns the detail of ELEPHANT_FORGOTTEN and ELEPHANT_FULL. NO_RESULT after any other answer. A call that returns 64 to 70, 72 or 73 has
- * no answer, and elephant_checkpoint never has one: the one before it stays. After elephant_renew there is none. */
+/* Returns the detail of ELEPHANT_FORGOTTEN and ELEPHANT_FULL. NO_RESULT after any other answer. A call that returns 64 to 70 or 72 to 76
+ * has no answer, and elephant_checkpoint and the calls of a journal never have one: the one before it stays. After elephant_renew there
+ * is none. */
 int32_t elephant_detail(const elephant *e, uint64_t *detail);
 
 /* How many of each kind were ever made, as the limits count them. A limit less its count is what may still be made. */
@@ -204,9 +208,9 @@ int32_t elephant_line(elephant *e, const void *line, size_t len, uint64_t *lengt
  * only look: elephant_now, elephant_take, elephant_row_.., elephant_history and the like. UNTOLD. */
 int32_t elephant_tell(elephant *e, uint64_t *length);
 
-/* Copies the text that elephant_line, elephant_tell or elephant_checkpoint made last, from `offset` on, at most `room` bytes. *copied:
- * how many, 0 at and past its end. You may copy it in pieces, with other calls between: the text stays until the next call of these
- * three. */
+/* Copies the text that elephant_line, elephant_tell, elephant_checkpoint or a call of a journal made last, from `offset` on, at most
+ * `room` bytes. *copied: how many, 0 at and past its end. You may copy it in pieces, with other calls between: the text stays until the
+ * next call of these. */
 int32_t elephant_answer(const elephant *e, uint64_t offset, void *into, size_t room, uint64_t *copied);
 
 /* ---- The clock ---- */
@@ -497,7 +501,7 @@ int32_t elephant_pass(elephant *e, uint64_t budget, uint64_t *removed, uint64_t 
 int32_t elephant_history(const elephant *e, uint64_t *folded, uint64_t *entries);
 
 /* Puts the bytes into the history as an entry: who makes the next changes, say, and why. It changes nothing else, so a store without a
- * history forgets them. TOO_BIG for more than 200 bytes. */
+ * history forgets them. The file of a journal has them. TOO_BIG for more than 200 bytes. */
 int32_t elephant_note(elephant *e, const void *bytes, size_t len);
 
 /* Folds all entries into the base, and frees them. *folded: how many they were. */
@@ -523,7 +527,8 @@ int32_t elephant_open_checkpoint(elephant *e, const void *bytes, size_t len, uin
 /* Gives directories, files and versions fresh numbers, and counts only what is held, so that a store near its limits can go on. Each
  * path leads to the same at each moment, with the same contents, moments, policies and marks. Close all handles first. A history
  * begins anew there, with one folded event, and keeps nothing of what was before. The kept result is dropped, since it has the old
- * numbers. HANDLES_OPEN; HISTORY_FULL if the limits allow a history no event. */
+ * numbers. HAS_JOURNAL, HANDLES_OPEN; HISTORY_FULL if the limits allow a history no event. A store with a journal is renewed in a second
+ * handle: elephant_checkpoint of the first, elephant_open_checkpoint, elephant_renew and elephant_journal_begin of the second. */
 int32_t elephant_renew(elephant *e);
 
 /* Return the number that a directory, a file, or a version of the file of that number will have after elephant_renew: ask before it.
@@ -532,6 +537,36 @@ int32_t elephant_renew(elephant *e);
 int32_t elephant_directory_across(const elephant *e, uint64_t directory, uint64_t *fresh);
 int32_t elephant_file_across(const elephant *e, uint64_t file, uint64_t *fresh);
 int32_t elephant_version_across(const elephant *e, uint64_t file, uint64_t version, uint64_t *fresh);
+
+/* ---- Journals ----
+ * A journal keeps a store in a file: a checkpoint, and the changes since, which you append. These calls say which bytes the file gets,
+ * and you write them; the library opens no file. elephant_answer copies the bytes.
+ *
+ * A change is all that was done between two calls of elephant_journal_pending whose bytes you wrote. After a crash the file has all of
+ * it or none. Questions, refused calls and cleans that find nothing due add nothing. With a journal every call but a question takes
+ * memory, so elephant_tick and the like can stop too, and elephant_pass keeps what it removed before it stopped. */
+
+/* Begins a journal. The text is the bytes of its file, a new one of *length bytes. The kept result stays. HAS_JOURNAL. */
+int32_t elephant_journal_begin(elephant *e, uint64_t *length);
+
+/* Opens the store that the bytes of a file keep, with its journal. The first *whole bytes keep it: cut the file there before you append.
+ * *rest: 0 if nothing follows them, 1 if the front of a change does, as after a crash, and 2 if damaged bytes do. With `history` not 0
+ * a history begins at the checkpoint, with one folded event, and what the changes did are its entries. OPENED; BAD_JOURNAL if the
+ * checkpoint is cut off or damaged, or the bytes are no journal; NO_MEMORY; HISTORY_FULL if the limits allow a history fewer events. */
+int32_t elephant_journal_open(elephant *e, const void *bytes, size_t len, uint32_t history, uint64_t *whole, uint32_t *rest);
+
+/* Makes the text the *length bytes that the change under way adds at the end of the file; none if nothing is under way. Once they are on
+ * the disk, call elephant_journal_written. If they don't get there, cut the file to its old length and ask again, or write a new file:
+ * only the bytes that were given last count. What is done in between isn't in them, and stays under way. NO_JOURNAL. */
+int32_t elephant_journal_pending(elephant *e, uint64_t *length);
+
+/* Says that the bytes of the last elephant_journal_pending or elephant_journal_compact are on the disk. It takes no memory. NO_JOURNAL;
+ * NO_RESULT if no bytes were given since the last call, also if elephant_journal_pending gave none. */
+int32_t elephant_journal_written(elephant *e);
+
+/* Makes the text the *length bytes of a new file: a checkpoint of the store as it is, also of what is under way. Once they are on the
+ * disk in the place of the old file, call elephant_journal_written. Until then the old file counts. NO_JOURNAL. */
+int32_t elephant_journal_compact(elephant *e, uint64_t *length);
 
 #ifdef __cplusplus
 }

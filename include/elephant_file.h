@@ -8,9 +8,6 @@
  *     if (elephant_file_commit(f)) return 1;                                         // now the save is on the disk
  *     elephant_file_close(f);
  *
- * NOT TO BE USED YET. Its source calls elephant_journal_begin, _open, _pending, _written and _compact, which elephant.h doesn't have: it is
- * built and tried over the stand-in of clients/c/tests/standin alone, and nothing installs it.
- *
  * It comes as source: compile elephant_file.c with your program. It runs on Linux, has no globals, starts no thread and handles no signal.
  *
  * THE FILE is a journal: a checkpoint, and the changes since. A change is what you did with the store between two commits. The file has

@@ -37,6 +37,7 @@ EXPORTED = "elephant_*"
 CONFIG = """prefix={prefix}
 libdir=${{prefix}}/{libdir}
 includedir=${{prefix}}/include
+file=${{prefix}}/share/elephant/elephant_file.c
 
 Name: elephant
 Description: The core of a file system that keeps earlier versions of files, in memory
@@ -147,6 +148,8 @@ def installed(prefix: Path, folder: Path = OUT, libdir: str = "lib") -> dict[str
     config = CONFIG.format(prefix=prefix, libdir=libdir, version=version())
     return {
         "include/elephant.h": LaidFile(0o644, HEADER.read_bytes()),
+        "include/elephant_file.h": LaidFile(0o644, FILE_HEADER.read_bytes()),
+        "share/elephant/elephant_file.c": LaidFile(0o644, FILE_SOURCE.read_bytes()),
         f"{libdir}/{STATIC.name}": LaidFile(0o644, (folder / STATIC.name).read_bytes()),
         f"{libdir}/{SONAME}": LaidFile(0o644, (folder / SHARED.name).read_bytes()),
         f"{libdir}/{SHARED.name}": LaidLink(SONAME),

@@ -20,7 +20,7 @@ SOURCE = "clients/c/src/elephant.c"
 # Calls of the header that `ele_c` exports.
 DIRECT = (
     "new", "delete", "open", "close", "line", "tell", "ahead", "trim", "checkpoint", "open_checkpoint", "renew", "directory_across",
-    "file_across", "version_across",
+    "file_across", "version_across", "journal_begin", "journal_open", "journal_pending", "journal_written", "journal_compact",
 )
 # The calls that only look at the handle.
 LOOKS = re.compile(r"now|detail|counts|answer|take|read_into|read_handle_into|rung|row_\w+|why_group|history|\w+_across")

@@ -33,10 +33,10 @@ OF_LOOK_UPS = {"IsRoot", "NoEntry", "NotDirectory", "IsDirectory", "Future", "No
 
 def letters_of(command: Command, facts: Facts) -> list[str]:
     """Returns the letters that stand for the words after a command."""
-    letters, after_path = [], False
+    letters, before = [], ""
     for kind in command.kinds:
-        letters.append(facts.letters[f"{kind} if after_path"] if kind == "Path" and after_path else facts.letters[kind])
-        after_path = kind == "Path"
+        letters.append(facts.letters.get(f"{kind} if after_{before.lower()}", facts.letters[kind]))
+        before = kind
     return letters
 
 

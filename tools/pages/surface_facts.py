@@ -40,7 +40,7 @@ CONSTANTS = {
     "name": ("crates/ele_moment/src/name.rt", r"const MOST_BYTES: usize = ([\d_]+);"),
     "moment": ("crates/ele_moment/src/moment.rt", r"const LAST: u64 = (\d+);"),
     "content": ("crates/ele_content/src/longest.rt", r"const LONGEST_CONTENT: u64 = ([\d_]+);"),
-    "note": ("crates/ele_events/src/note.rt", r"const LONGEST_NOTE: usize = ([\d_]+);"),
+    "note": ("crates/ele_events/src/noting.rt", r"const LONGEST_NOTE: usize = ([\d_]+);"),
 }
 SOURCES = [
     COMMAND, PARTS, STEP, CHANGE, ASKS, REFUSAL, LIMITS, ERRORS, HELP_PAGES, HELP_SCRIPT, LINE_FAULT, SHELL_FAULT, STORM_FAULT, CODES,
@@ -51,7 +51,7 @@ EXPORTS = "crates/ele_c/src"
 TYPES = {
     "&mut Elephant": "elephant *", "*mut Elephant": "elephant *", "&mut *mut Elephant": "elephant **", "u64": "uint64_t", "u32": "uint32_t",
     "&mut u64": "uint64_t *", "&[u8]": "const void *", "&mut [u8]": "void *", "&mut Numbers": "inner_row *",
-    "&LimitFields": "const elephant_limits *",
+    "&LimitFields": "const elephant_limits *", "&mut u32": "uint32_t *",
 }
 
 
@@ -360,7 +360,7 @@ def facts_of(tree: Tree) -> Facts:
     limits, codes = limits_of(tree), codes_of(tree)
     commands = commands_of(tree, limits, [it.name for it in codes if it.kind == "refusal" and it.name != "Full"])
     detail = tree[CODES].partition("fn detail_in(")[2].partition("\n}")[0]
-    letters = re.findall(r'WordKind::(\w+)( if after_path)? => "(\S+)"', tree[HELP_SCRIPT])
+    letters = re.findall(r'WordKind::(\w+)( if after_\w+)? => "(\S+)"', tree[HELP_SCRIPT])
     return Facts(
         commands, codes, limits, rows_of(tree), exports_of(tree), numbered(tree[CALLS], "EARLY|MIDDLE|LATE", "Call"),
         numbered(tree[KINDS], "KINDS", "Kind"), enums_of(tree),

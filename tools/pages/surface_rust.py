@@ -18,7 +18,8 @@ TESTED = place_of(f"{CRATE}/tests", "const BARE: [(Error, i32, ErrorKind)")
 WIDTH = 130
 TYPES = {
     "elephant *": "*mut elephant", "elephant **": "*mut *mut elephant", "const void *": "*const u8", "void *": "*mut u8", "uint64_t": "u64",
-    "uint32_t": "u32", "size_t": "usize", "uint64_t *": "*mut u64", "int32_t": "i32", "const char *": "*const c_char",
+    "uint32_t": "u32", "size_t": "usize", "uint64_t *": "*mut u64", "uint32_t *": "*mut u32", "int32_t": "i32",
+    "const char *": "*const c_char",
 }
 # The types of the numbers of an enum; of others it is that of a column.
 ENUM_TYPES = {"code": "i32", "tag": "u32"}
@@ -136,8 +137,8 @@ def values(tree: Tree, facts: Facts) -> str:
 
 def store(tree: Tree, facts: Facts) -> str:
     """Returns the file with the limits that a store is opened with."""
-    given = match_in(r"(?s)sys::elephant_limits \{\n(.*?)        \};", tree[STORE])[1]
-    return tree[STORE].replace(given, "".join(f"            {name}: self.limits.{name},\n" for name in facts.most()))
+    given = match_in(r"(?s)\n    sys::elephant_limits \{\n(.*?)    \}\n", tree[STORE])[1]
+    return tree[STORE].replace(given, "".join(f"        {name}: limits.{name},\n" for name in facts.most()))
 
 
 def tested(tree: Tree, facts: Facts) -> str:

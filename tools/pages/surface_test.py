@@ -78,7 +78,7 @@ OF_FILES = [
     Planted(python.ANSWERS, "    members: int = 100_000\n    marks: int = 10_000", "    marks: int = 10_000", (python.ANSWERS,)),
     Planted(rust.VALUES, "    /// Marks: at most 10,000.", "    /// Marks: at most 10,001.", (rust.VALUES,)),
     Planted(rust.VALUES, "            marks: 10_000,", "            marks: 10_001,", (rust.VALUES,)),
-    Planted(rust.STORE, "            marks: self.limits.marks,\n", "", (rust.STORE,)),
+    Planted(rust.STORE, "        marks: limits.marks,\n", "", (rust.STORE,)),
     Planted(rust.TESTED, "(Error::IsRoot, 11, ", "(Error::IsRoot, 12, ", (rust.TESTED,)),
     Planted(rust.TESTED, "    (Error::IsRoot, 11, ErrorKind::Other),\n", "", (rust.TESTED,)),
     Planted(rust.TESTED, '    (Limit::Marks, "marks"),\n', "", (rust.TESTED,)),
@@ -99,7 +99,7 @@ OF_FILES = [
     Planted(version.CRATE, '\nversion = "', '\nversion = "1', (version.CRATE,)),
     Planted(version.CRATE, "\nlicense-file = ", "\nlicense = ", (version.CRATE,)),
     Planted(docs.OF_EVENTS[0], "Each of the 36 events", "Each of the 34 events", (docs.OF_EVENTS[0],)),
-    Planted(docs.OF_EVENTS[1], "each of the 36 events", "each of the 34 events", (docs.OF_EVENTS[1],)),
+    Planted(docs.OF_EVENTS[1], "each of the 36 events", "each of the 35 events", (docs.OF_EVENTS[1],)),
 ]
 ALL_OF_A_REFUSAL = (HEADER, python.ERRORS, python.NAMES, rust.SYS, rust.ERRORS, docs.ERRORS)
 # A fault, or something new, of a source.

@@ -87,6 +87,13 @@ class Writer:
         end = "" if self.rng.random() < 0.4 else f" {max(0, self.twin.now + self.rng.choice([0, 1, 2, 4, 7, 12, 20]))}"
         return f"mark {self.group()} {self.moment()}{end}"
 
+    def changes(self) -> str:
+        moments = [max(0, self.twin.now - self.rng.choice([0, 0, 1, 2, 3, 5, 9, 15, 25])) for _ in range(2)]
+        if self.rng.random() < 0.9:
+            moments.sort()
+        within = "" if self.rng.random() < 0.6 else f" {self.path() if self.rng.random() < 0.7 else self.rng.choice(PATHS)}"
+        return f"changes {moments[0]} {moments[1] + (self.rng.random() < 0.1)}{within}"
+
     def group(self) -> str:
         return self.rng.choice("kkkklllln")
 
@@ -135,8 +142,9 @@ class Writer:
             (7, lambda: "due"),
             (8, lambda: f"why {self.held()}"),
             (2, lambda: f"ahead {max(0, self.twin.now + rng.choice([-1, 0, 1, 2, 4, 9, 20]))}"),
-            (2, lambda: rng.choice(["handles", "gone", "answers"])),
+            (2, lambda: rng.choice(["handles", "gone", "removals", "answers"])),
             (3, lambda: f"story {path() if rng.random() < 0.5 else self.new_path()}"),
+            (4, self.changes),
             (3, lambda: "usage"),
             (1, lambda: "groups"),
             (1, lambda: rng.choice(["history", "trim"]) if rng.random() < 0.2 else "due"),

@@ -85,6 +85,13 @@ def name_row(names: Sequence[Name], name: Name) -> str:
     return f"- name {name.birth} {or_dash(name.death)} {path}"
 
 
+def last_name(names: Sequence[Name], file: int) -> str:
+    """Returns the path of the name of a file that lived longest, and until when it did."""
+    own = [it for it in names if it.target == Target("file", file)]
+    longest = max(own, key=lambda it: float("inf") if it.death is None else it.death)
+    return f"{name_row(names, longest).split()[-1]} {or_dash(longest.death)}"
+
+
 def story(names: Sequence[Name], taken: Sequence[Taken], held: dict[int, list[tuple[int, str]]], path: str) -> Block:
     """Returns the answer to `story`. `held` has the number and the row of each held version, by file."""
     seen = names

@@ -7,11 +7,13 @@ versions anew at each question, among all versions.
 from collections.abc import Callable, Iterable, Iterator
 from datetime import datetime, timedelta
 
+from program.twin_changes import changes
 from program.twin_rows import (
-    KINDS, LAST_MOMENT, LONGEST, LONGEST_NOTE, ROOT, SLOT, Bad, Block, Draft, File, Group, Handle, Mark, Name, No, Place, Removal, Slots, Tagged, Target,
-    Version, check, content, due_under, ladder, level_of, listed, moments_of, or_dash, printed_line, refusal, rewritten, safe_numbers, some,
+    KINDS, LAST_MOMENT, LONGEST, LONGEST_NOTE, ROOT, SLOT, Bad, Block, Draft, File, Group, Handle, Mark, Name, No, Place, Removal, Slots,
+    Tagged, Target, Version, check, content, due_under, ladder, level_of, listed, moments_of, or_dash, printed_line, refusal, rewritten,
+    safe_numbers, some,
 )
-from program.twin_story import Taken, copied, known, story
+from program.twin_story import Taken, copied, known, last_name, story
 
 
 class Twin:
@@ -32,6 +34,7 @@ class Twin:
         self.folded = 0
         self.removals: list[Removal] = []
         self.taken: list[Taken] = []
+        self.told: list[str] = []
         self.since: dict[str, int] = {}
 
     # Where paths lead.
@@ -214,7 +217,7 @@ class Twin:
         return min((it for it in hopes if due_under(row.policy, version.closed, version.ended, newer, is_live, it)), default=None)
 
     def held_fate(self, file: int, version: Version) -> str:
-        """The fate of a version in a story: before it the mark that held a due version after its policy had let it go."""
+        """The fate of a version, and before it the mark that held a due version after its policy had let it go."""
         fate, own = self.fate(file, version), self.policy_moment(file, version)
         since = int(fate.split()[1]) if fate.startswith("due ") else None
         if since is not None and own is not None and own < since:
@@ -227,7 +230,7 @@ class Twin:
 
     def ask_why(self, tagged: str) -> Block:
         try:
-            return [f"ok why {self.fate(*self.version_of(tagged))}"]
+            return [f"ok why {self.held_fate(*self.version_of(tagged))}"]
         except No as no:
             removed = self.removal_of(tagged) if no.args[0] == "Forgotten" else None
             return [removed or refusal(no)]
@@ -257,6 +260,9 @@ class Twin:
         rows = [f"- {it.at} {it.file} {it.version} {it.path} {it.fate}" for it in self.removals]
         return [f"ok gone {self.folded} {len(rows)}", *rows]
 
+    def ask_removals(self) -> Block:
+        return [f"ok removals {self.folded} {len(self.told)}", *self.told]
+
     def ask_answers(self) -> Block:
         rows = [row for line, block in zip(self.entries, self.printed) for row in (f"- {line}", *block)]
         return [f"ok answers {self.folded} {len(self.entries)}", *rows]
@@ -265,12 +271,24 @@ class Twin:
         held = {file: [(it.number, f"{known(it)} {self.held_fate(file, it)}") for it in row.versions] for file, row in self.files.items()}
         return story(self.names, self.taken, held, path)
 
+    def ask_changes(self, first: str, second: str, within: str | None = None) -> Block:
+        if int(second) > self.now:
+            return [refusal(No("Future"))]
+        if int(second) < int(first):
+            return [refusal(No("NotAhead"))]
+        return changes(self.names, self.number_at, int(first), int(second), within)
+
+    def number_at(self, target: Target, moment: int) -> int | None:
+        """The number of the held version that a file had at a moment."""
+        versions = self.files[target.number].versions if target.kind == "file" else []
+        return next((it.number for it in versions if it.lived(moment)), None)
+
     def ask_history(self) -> Block:
         return [f"ok history {self.folded} {len(self.entries)}", *(f"- {it}" for it in self.entries)]
 
     def ask_trim(self) -> Block:
         count = len(self.entries)
-        self.entries, self.printed, self.removals, self.taken, self.since = [], [], [], [], {}
+        self.entries, self.printed, self.removals, self.taken, self.told, self.since = [], [], [], [], [], {}
         self.folded += count
         return [f"ok trimmed {count}"]
 
@@ -577,9 +595,10 @@ class Twin:
         ripe, file, number = keys[0]
         row = self.files[file]
         version = some(row.held(number), "Forgotten")
-        fate, held = self.fate(file, version), self.held_fate(file, version)
+        fate = self.held_fate(file, version)
         self.removals.append(Removal(self.now, file, number, self.path_of(Target("file", file)), fate))
-        self.taken.append(Taken(file, number, f"{known(version)} removed {self.now} {held}", copied(self.names)))
+        self.told.append(f"- {self.now} {file} {number} {last_name(self.names, file)} {fate}")
+        self.taken.append(Taken(file, number, f"{known(version)} removed {self.now} {fate}", copied(self.names)))
         row.versions = [it for it in row.versions if it.number != number]
         self.drop_idle(file)
         return f"ok removed {ripe} {file} {number}"

@@ -338,6 +338,7 @@ static void a_session_makes_one_version(void) {
 }
 
 static void a_note_is_an_entry_of_the_history(void) {
+    static const char large[201];
     elephant *e = with_file(1);
     uint64_t folded, before, entries;
     OK(elephant_history(e, &folded, &before));

@@ -148,6 +148,9 @@ ATTEMPT(checkpoint, elephant_checkpoint(e, &out.number))
 ATTEMPT(directory_across, elephant_directory_across(e, 2, &out.number))
 ATTEMPT(file_across, elephant_file_across(e, 2, &out.number))
 ATTEMPT(version_across, elephant_version_across(e, 1, 2, &out.number))
+ATTEMPT(journal_begin, elephant_journal_begin(e, &out.number))
+ATTEMPT(journal_pending, elephant_journal_pending(e, &out.number))
+ATTEMPT(journal_compact, elephant_journal_compact(e, &out.number))
 
 #define NAMED(name) {#name, name}
 
@@ -163,6 +166,12 @@ static const struct attempt attempts[] = {
     NAMED(save_large),     NAMED(save_none),     NAMED(save_new),      NAMED(restore_own),   NAMED(restore_dead), NAMED(restore_left),
     NAMED(checkpoint),     NAMED(directory_across), NAMED(file_across), NAMED(version_across), NAMED(note),
 };
+
+/* Those of a store without a journal, and of one with a journal. */
+static const struct attempt of_begin[] = {NAMED(journal_begin)}, of_journal[] = {NAMED(journal_pending), NAMED(journal_compact)};
+
+/* Whether the stores have a journal, with a change under way. */
+static int journaled;
 
 /* A store in which each of these calls has something to do. */
 static elephant *ready(uint32_t history) {
@@ -193,6 +202,10 @@ static elephant *ready(uint32_t history) {
     OK(elephant_create(e, TEXT("/g"), &number));
     save(e, "/g", "first", 5);
     OK(elephant_policy(e, TEXT("/g"), TEXT("one")));
+    if (journaled) {
+        OK(elephant_journal_begin(e, &number));
+        OK(elephant_tick(e, 0));
+    }
     return e;
 }
 
@@ -203,12 +216,26 @@ static uint64_t answered(elephant *e, uint32_t history) {
     return folded + entries;
 }
 
+static struct told given, given_again;
+
+/* The bytes of the change under way. */
+static void give(struct told *told, elephant *e) {
+    uint64_t length, copied;
+    told->length = 0;
+    if (!journaled) return;
+    OK(elephant_journal_pending(e, &length));
+    OK(elephant_answer(e, 0, told->text, MOST, &copied));
+    WANT(copied == length && length > 0);
+    told->length = length;
+}
+
 /* Makes the call with one of its allocations refused, and then with memory. Returns whether it asked for so many. */
 static int refuse_one(const struct attempt *it, long growth, uint32_t history) {
     elephant *e = ready(history);
     uint64_t events;
     int32_t code;
     tell_all(&before, e);
+    give(&given, e);
     memset(&out, 0x5a, sizeof out);
     kept = out;
     events = answered(e, history);
@@ -225,6 +252,8 @@ static int refuse_one(const struct attempt *it, long growth, uint32_t history) {
                     before.text, (int)after.length, after.text);
             exit(1);
         }
+        give(&given_again, e);
+        WANT(given.length == given_again.length && !memcmp(given.text, given_again.text, given.length));
         code = it->make(e);
     }
     if (code != ELEPHANT_OK) {
@@ -272,13 +301,26 @@ static void refuse_open(uint32_t history) {
     }
 }
 
-/* Opening a checkpoint: the handle stays closed. */
+static int32_t open_again(elephant *closed, const char *bytes, size_t length, uint32_t history) {
+    uint64_t whole = 7;
+    uint32_t rest = 7;
+    int32_t code;
+    if (!journaled) return elephant_open_checkpoint(closed, bytes, length, history);
+    code = elephant_journal_open(closed, bytes, length, history, &whole, &rest);
+    if (code == ELEPHANT_OK)
+        WANT(whole == length && rest == 0);
+    else
+        WANT(whole == 7 && rest == 7);
+    return code;
+}
+
+/* Opening a checkpoint, or the file of a journal: the handle stays closed. */
 static void refuse_open_checkpoint(uint32_t history) {
     elephant *e = ready(0), *back;
     uint64_t length, copied;
     char *bytes;
     tell_all(&before, e);
-    OK(elephant_checkpoint(e, &length));
+    OK(journaled ? elephant_journal_compact(e, &length) : elephant_checkpoint(e, &length));
     bytes = malloc(length);
     WANT(bytes);
     OK(elephant_answer(e, 0, bytes, length, &copied));
@@ -289,13 +331,13 @@ static void refuse_open_checkpoint(uint32_t history) {
         int32_t code;
         seen = 0;
         left = growth;
-        code = elephant_open_checkpoint(back, bytes, length, history);
+        code = open_again(back, bytes, length, history);
         left = -1;
         if (code == ELEPHANT_NO_MEMORY) {
             WANT(seen);
             refused++;
             CODE(ELEPHANT_CLOSED, elephant_now(back, &copied));
-            OK(elephant_open_checkpoint(back, bytes, length, history));
+            OK(open_again(back, bytes, length, history));
         } else {
             WANT(code == ELEPHANT_OK);
         }
@@ -477,16 +519,24 @@ static void bad_arguments_take_no_memory(void) {
 static void refuse_all(uint32_t history) {
     refuse_open(history);
     refuse_open_checkpoint(history);
-    refuse_renew(history);
     for (size_t at = 0; at < sizeof attempts / sizeof *attempts; at++) refuse_each(&attempts[at], history);
     refuse_pass(history);
+    if (journaled) {
+        for (size_t at = 0; at < sizeof of_journal / sizeof *of_journal; at++) refuse_each(&of_journal[at], history);
+        return;
+    }
+    refuse_renew(history);
+    for (size_t at = 0; at < sizeof of_begin / sizeof *of_begin; at++) refuse_each(&of_begin[at], history);
 }
 
 int main(void) {
     for (size_t at = 0; at < sizeof large; at++) large[at] = (char)(at % 251);
     for (all_after = 0; all_after < 2; all_after++) {
-        refuse_all(0);
-        refuse_all(1);
+        for (journaled = 0; journaled < 2; journaled++) {
+            refuse_all(0);
+            refuse_all(1);
+        }
+        journaled = 0;
         refuse_line("create /new");
         refuse_line("versions /f");
         refuse_line("read /d/a");

@@ -21,6 +21,7 @@ from elephant import (
     KeepOne,
     KeepSafe,
     Landmarks,
+    Marked,
     Moment,
     NoHistory,
     OpenHandle,
@@ -35,7 +36,8 @@ DATA = Path(__file__).resolve().parents[3] / "crates" / "worked_rows" / "data"
 Reads = Callable[[bytes], object]
 ROWS_OF_GONE = (
     "", "-", "- 5 1 1 /f", "- 5 1 1 /f due", "- 5 1 1 /f due 5", "- 5 1 1 /f due 5 at  once", "- 5 1 1 /f due 5 at once ",
-    "- 5 1 1 /f due 5 by age",
+    "- 5 1 1 /f due 5 by age", "- 5 1 1 /f held g due 5 at once", "- 5 1 1 /f held due 5 at once", "- 5 1 1 /f held g/h 2 due 5 at once",
+    "- 5 1 1 /f held g 2 kept",
     "- 5 1 1 /f due 5 by age -", "- 5 1 1 /f due 5 by 3 level", "- 5 1 1 /f due 5 later", "- 5 1 1 /f kept", "- 5 1 1 f due 5 at once",
     "- 5 1 1 / due 5 at once", "- 5 1 1 /f/ due 5 at once",
     "- 5 1 1 /a@b due 5 at once", "- 5 1 1  due 5 at once", "- 05 1 1 /f due 5 at once", "- 5 -1 1 /f due 5 at once",
@@ -79,14 +81,16 @@ def at(second: int) -> Moment:
 class Rows(unittest.TestCase):
     def test_each_cause_of_a_removal(self) -> None:
         answer = (
-            b"ok gone 7 4\n- 5 1 1 /f due 5 at once\n- 9 1 2 - due 5 by age 3\n"
+            b"ok gone 7 5\n- 5 1 1 /f due 5 at once\n- 9 1 2 - due 5 by age 3\n"
             b"- 30 2 2 /d/a%20b due 28 by 3 level 1\n- 31 9 1 - due 4 at once\n"
+            b"- 40 2 4 /h held g 6/35 due 35 at once\n"
         )
         wanted = (
             Removal(at(5), 1, 1, "/f", at(5), Cause.AT_ONCE, spelled=b"/f"),
             Removal(at(9), 1, 2, None, at(5), Cause.BY_AGE, age=3),
             Removal(at(30), 2, 2, "/d/a b", at(28), Cause.DISPLACED, by=3, level=1, spelled=b"/d/a%20b"),
             Removal(at(31), 9, 1, None, at(4), Cause.AT_ONCE),
+            Removal(at(40), 2, 4, "/h", at(35), Cause.AT_ONCE, spelled=b"/h", held=Marked("g", at(6), at(35))),
         )
         self.assertEqual(read_gone(answer), Gone(7, wanted))
         self.assertIsInstance(read_gone(answer).removals[0].moment, Moment)
@@ -97,7 +101,7 @@ class Rows(unittest.TestCase):
             (Due(at(5), by=8, level=1), "due 5 by 8 level 1", Cause.DISPLACED),
         ):
             self.assertEqual((str(fate), fate.cause), (word, cause))
-        for words in ("due 18 at once", "due 18 by age 7", "due 18 by 8 level 1"):
+        for words in ("due 18 at once", "due 18 by age 7", "due 18 by 8 level 1", "held g 2/18 due 18 at once"):
             self.assertEqual(str(read_why(f"ok why removed 30 {words}\n".encode())), f"removed 30 {words}")
 
     def test_handles(self) -> None:

@@ -74,7 +74,8 @@ class Header(unittest.TestCase):
             fault = error("/f")
             self.assertEqual((isinstance(fault, base), getattr(fault, "errno", None)), (error in system, wanted), error)
         of_lines, of_stores = "BadName BadPath BadMoment BadLadder Syntax", "Closed BadLimits NoHistory BadCheckpoint HandlesOpen"
-        values = {*of_lines.split(), *of_stores.split()}
+        of_journals = "NoJournal HasJournal BadJournal"
+        values = {*of_lines.split(), *of_stores.split(), *of_journals.split()}
         self.assertEqual({it.__name__ for it in _errors.BY_NUMBER.values() if issubclass(it, ValueError)}, values)
         memory = {it.__name__ for it in _errors.BY_NUMBER.values() if issubclass(it, MemoryError)}
         self.assertEqual(memory, {"NoMemory", "Untold"})

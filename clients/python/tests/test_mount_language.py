@@ -81,8 +81,8 @@ class Language(Case):
                 tried.add(next(it for it in (" ".join(words[:2]), words[0]) if it in COMMANDS))
                 self.assertEqual(self.ask(line), other.line(line), line)
                 self.clocks.pass_by(1)
-            # A mark says more, and `tick` moves no clock here.
-            self.assertEqual(tried | {"mark"} | AUDIT, COMMANDS.keys() - NOT_HERE | {"tick"})
+            # A mark says more, changes have their dates, and `tick` moves no clock here.
+            self.assertEqual(tried | {"mark", "changes"} | AUDIT, COMMANDS.keys() - NOT_HERE | {"tick"})
 
     def test_what_a_mount_has_not_is_refused(self) -> None:
         self.save(b"f", b"one")

@@ -526,7 +526,7 @@ class Changing(Case):
 
 class NoHistory(Case):
     def test_lines_of_an_audit_say_what_is_lacking(self) -> None:
-        for line in ("gone", "answers", "handles", "history", "trim"):
+        for line in ("gone", "removals", "answers", "handles", "history", "trim"):
             self.assertEqual(self.ask(line), f"elephant-mount: {NO_HISTORY}\n")
 
 
@@ -564,6 +564,7 @@ class Auditing(Case):
         self.ask("clean")
         row = f"- {now} 1 1 /f due {START + HOUR} by age 3600"
         self.assertEqual(self.ask("gone").splitlines()[1:], [row])
+        self.assertEqual(self.ask("removals").splitlines()[1:], [row.replace("/f due", "/f - due")])
         self.assertEqual(self.ask("why /f 1"), f"ok why removed {now} due {START + HOUR} by age 3600\n")
         self.assertEqual(self.ask("why /f#1"), f"ok why removed {now} due {START + HOUR} by age 3600\n")
         self.assertEqual(self.ask("why /f #1"), f"ok why removed {now} due {START + HOUR} by age 3600\n")

@@ -47,8 +47,8 @@ pub(crate) fn read_gone(answer: &str) -> Result<Gone, Error> {
         let mut words = Words::of(row);
         let (moment, file, number) = (words.moment()?, words.number()?, words.number()?);
         let path = words.path()?;
-        let (since, cause) = words.due()?;
-        Ok(Removal { moment, file, number, path, since, cause })
+        let (held, since, cause) = words.due()?;
+        Ok(Removal { moment, file, number, path, held, since, cause })
     })?;
     Ok(Gone { folded, removals })
 }
@@ -99,15 +99,20 @@ fn read_version_story(row: &str) -> Result<VersionStory, Error> {
         ["removed", moment, rest @ ..] => (Some(moment_of(moment)?), rest),
         rest => (None, rest),
     };
-    let (held, rest) = match rest {
-        ["held", group, mark, rest @ ..] => (Some(Hold { group: group_of(group)?, mark: mark_of(mark)? }), rest),
-        rest => (None, rest),
-    };
+    let (held, rest) = held_of(rest)?;
     let fate = fate_of(rest)?;
     if held.is_some() && !matches!(fate, Some(Fate::Due { .. })) {
         return Err(OTHER);
     }
     Ok(VersionStory { number, info, removed, held, fate })
+}
+
+// The mark that held a version, if one did, and the words after it.
+fn held_of<'r, 'w>(words: &'r [&'w str]) -> Result<(Option<Hold>, &'r [&'w str]), Error> {
+    Ok(match words {
+        ["held", group, mark, rest @ ..] => (Some(Hold { group: group_of(group)?, mark: mark_of(mark)? }), rest),
+        rest => (None, rest),
+    })
 }
 
 // A fate by its words, or None for a dash.
@@ -148,8 +153,8 @@ fn cause_of(words: &[&str]) -> Result<Cause, Error> {
 pub(crate) fn read_removed(answer: &str) -> Result<Fate, Error> {
     let (mut words, others) = lines(answer, "ok why removed ")?;
     let moment = words.moment()?;
-    let (since, cause) = words.due()?;
-    others.is_empty().then_some(Fate::Removed { moment, since, cause }).ok_or(OTHER)
+    let (held, since, cause) = words.due()?;
+    others.is_empty().then_some(Fate::Removed { moment, held, since, cause }).ok_or(OTHER)
 }
 
 // The rows of a stored answer begin as those of events do, so they are counted.
@@ -242,14 +247,13 @@ impl<'a> Words<'a> {
         }
     }
 
-    // Since when a version was due and for what cause, and nothing after it.
-    fn due(&mut self) -> Result<(u64, Cause), Error> {
-        if self.next()? != "due" {
-            return Err(OTHER);
-        }
-        let since = self.moment()?;
+    // The mark that held a version, since when it was due and for what cause, and nothing after it.
+    fn due(&mut self) -> Result<(Option<Hold>, u64, Cause), Error> {
         let rest: Vec<&str> = self.0.by_ref().collect();
-        Ok((since, cause_of(&rest)?))
+        match held_of(&rest)? {
+            (held, ["due", since, cause @ ..]) => Ok((held, moment_of(since)?, cause_of(cause)?)),
+            _ => Err(OTHER),
+        }
     }
 }
 
@@ -279,11 +283,12 @@ mod tests {
     use crate::{Answered, Answers, Cause, Error, Fate, Gone, History, OpenHandle, Removal};
     use crate::{Hold, Mark, NameStory, Story, VersionSpan, VersionStory};
 
-    const GONE: &str = "ok gone 7 4\n- 5 1 1 /f due 5 at once\n- 9 1 2 - due 5 by age 3\n\
-                        - 30 2 2 /d/a%20b due 28 by 3 level 1\n- 31 9 1 - due 4 at once\n";
+    const GONE: &str = "ok gone 7 5\n- 5 1 1 /f due 5 at once\n- 9 1 2 - due 5 by age 3\n\
+                        - 30 2 2 /d/a%20b due 28 by 3 level 1\n- 31 9 1 - due 4 at once\n\
+                        - 40 2 4 /h held g 6/35 due 35 at once\n";
 
     // Each is no row of `gone`.
-    const OTHER_ROWS: [&str; 27] = [
+    const OTHER_ROWS: [&str; 31] = [
         "",
         "-",
         "- 5 1 1 /f",
@@ -311,25 +316,32 @@ mod tests {
         "5 1 1 /f due 5 at once",
         " - 5 1 1 /f due 5 at once",
         "- - 1 1 /f due 5 at once",
+        "- 5 1 1 /f held g due 5 at once",
+        "- 5 1 1 /f held due 5 at once",
+        "- 5 1 1 /f held g/h 2 due 5 at once",
+        "- 5 1 1 /f held g 2 kept",
     ];
 
     fn removal(moment: u64, version: (u64, u64), path: Option<&str>, since: u64, cause: Cause) -> Removal {
         let (file, number) = version;
-        Removal { moment, file, number, path: path.map(str::to_owned), since, cause }
+        Removal { moment, file, number, path: path.map(str::to_owned), held: None, since, cause }
     }
 
     #[test]
     fn each_cause_of_a_removal_is_read() {
+        let held = Some(Hold { group: "g".to_owned(), mark: Mark { at: 6, until: Some(35) } });
         let removals = vec![
             removal(5, (1, 1), Some("/f"), 5, Cause::AtOnce),
             removal(9, (1, 2), None, 5, Cause::ByAge { seconds: 3 }),
             removal(30, (2, 2), Some("/d/a%20b"), 28, Cause::Displaced { level: 1, by: 3 }),
             removal(31, (9, 1), None, 4, Cause::AtOnce),
+            Removal { held: held.clone(), ..removal(40, (2, 4), Some("/h"), 35, Cause::AtOnce) },
         ];
         assert_eq!(read_gone(GONE), Ok(Gone { folded: 7, removals }));
         assert_eq!(read_gone("ok gone 0 0\n"), Ok(Gone { folded: 0, removals: vec![] }));
-        let removed = Fate::Removed { moment: 30, since: 18, cause: Cause::AtOnce };
-        assert_eq!(read_removed("ok why removed 30 due 18 at once\n"), Ok(removed));
+        let removed = |held, since| Fate::Removed { moment: 40, held, since, cause: Cause::AtOnce };
+        assert_eq!(read_removed("ok why removed 40 due 18 at once\n"), Ok(removed(None, 18)));
+        assert_eq!(read_removed("ok why removed 40 held g 6/35 due 35 at once\n"), Ok(removed(held, 35)));
     }
 
     #[test]

@@ -2,7 +2,7 @@
 
 use crate::answers::{read_answers, read_gone, read_handles, read_history, read_removed, refused};
 use crate::sys;
-use crate::{Cause, Error, Fate, Store};
+use crate::{Cause, Error, Fate, Hold, Store};
 
 /// What was folded, and the lines of the stored events.
 #[derive(Clone, Debug, PartialEq, Eq, Hash)]
@@ -33,6 +33,8 @@ pub struct Removal {
     pub number: u64,
     /// The path that led to its file just before. None if no live names did.
     pub path: Option<String>,
+    /// The mark that held it after its policy had let it go. None if no mark did.
+    pub held: Option<Hold>,
     /// Since when it was due.
     pub since: u64,
     /// For what reason.

@@ -162,7 +162,7 @@ errors! {
     NotPast = ELEPHANT_NOT_PAST, "the moment of a mark must be earlier than now";
     AlreadyMember = ELEPHANT_ALREADY_MEMBER, "the file is in the group already";
     NotMember = ELEPHANT_NOT_MEMBER, "the file isn't in the group";
-    NotAhead = ELEPHANT_NOT_AHEAD, "the end of a mark must be later than now, and the moment of 'ahead' not earlier";
+    NotAhead = ELEPHANT_NOT_AHEAD, "the end of a mark must be later than now, the moment of 'ahead' not earlier, nor the second of 'changes' than its first";
     BadName = ELEPHANT_BAD_NAME, "a name has 1 to 64 bytes without /, @ and #, and isn't . or ..";
     BadPath = ELEPHANT_BAD_PATH, "a path begins with /, has no empty name and at most 32 names, and a number after #";
     BadMoment = ELEPHANT_BAD_MOMENT, "no moment has this form, or it is too late";
@@ -173,6 +173,9 @@ errors! {
     Untold = ELEPHANT_UNTOLD, "the line was run, but there was no memory for the text of its answer";
     BadCheckpoint = ELEPHANT_BAD_CHECKPOINT, "the bytes are no checkpoint of a store";
     HandlesOpen = ELEPHANT_HANDLES_OPEN, "a handle is open";
+    NoJournal = ELEPHANT_NO_JOURNAL, "the store has no journal";
+    HasJournal = ELEPHANT_HAS_JOURNAL, "the store has a journal";
+    BadJournal = ELEPHANT_BAD_JOURNAL, "the bytes are no file of a store";
 }
 // End of the codes.
 
@@ -180,14 +183,14 @@ impl std::error::Error for Error {}
 
 impl From<Error> for io::Error {
     /// The kind is `NotFound` for a name or version that isn't there, `AlreadyExists` for a taken name,
-    /// `OutOfMemory`, `InvalidInput` for too large a content and for what is no name, path, moment or
-    /// checkpoint, and `Other` for each other error.
+    /// `OutOfMemory`, `InvalidInput` for too large a content and for what is no name, path, moment,
+    /// checkpoint or file of a store, and `Other` for each other error.
     fn from(error: Error) -> io::Error {
         let kind = match error {
             Error::NoEntry | Error::NoVersion | Error::Forgotten { .. } => io::ErrorKind::NotFound,
             Error::Exists => io::ErrorKind::AlreadyExists,
             Error::NoMemory => io::ErrorKind::OutOfMemory,
-            Error::TooBig | Error::BadName | Error::BadPath | Error::BadMoment | Error::BadCheckpoint => {
+            Error::TooBig | Error::BadName | Error::BadPath | Error::BadMoment | Error::BadCheckpoint | Error::BadJournal => {
                 io::ErrorKind::InvalidInput
             }
             _ => io::ErrorKind::Other,

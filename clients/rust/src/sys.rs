@@ -52,6 +52,9 @@ pub const ELEPHANT_NO_RESULT: i32 = 68;
 pub const ELEPHANT_UNTOLD: i32 = 71;
 pub const ELEPHANT_BAD_CHECKPOINT: i32 = 72;
 pub const ELEPHANT_HANDLES_OPEN: i32 = 73;
+pub const ELEPHANT_NO_JOURNAL: i32 = 74;
+pub const ELEPHANT_HAS_JOURNAL: i32 = 75;
+pub const ELEPHANT_BAD_JOURNAL: i32 = 76;
 
 pub const ELEPHANT_LIMIT_FILES: u64 = 1;
 pub const ELEPHANT_LIMIT_DIRECTORIES: u64 = 2;
@@ -296,4 +299,16 @@ extern "C" {
     pub fn elephant_directory_across(e: *const elephant, directory: u64, fresh: *mut u64) -> i32;
     pub fn elephant_file_across(e: *const elephant, file: u64, fresh: *mut u64) -> i32;
     pub fn elephant_version_across(e: *const elephant, file: u64, version: u64, fresh: *mut u64) -> i32;
+    pub fn elephant_journal_begin(e: *mut elephant, length: *mut u64) -> i32;
+    pub fn elephant_journal_open(
+        e: *mut elephant,
+        bytes: *const u8,
+        len: usize,
+        history: u32,
+        whole: *mut u64,
+        rest: *mut u32,
+    ) -> i32;
+    pub fn elephant_journal_pending(e: *mut elephant, length: *mut u64) -> i32;
+    pub fn elephant_journal_written(e: *mut elephant) -> i32;
+    pub fn elephant_journal_compact(e: *mut elephant, length: *mut u64) -> i32;
 }

@@ -2,6 +2,7 @@
 
 use crate::questions::unless_never;
 use crate::sys;
+use crate::Hold;
 use std::fmt;
 use std::time::{SystemTime, UNIX_EPOCH};
 
@@ -381,6 +382,8 @@ pub enum Fate {
     Removed {
         /// When.
         moment: u64,
+        /// The mark that held it after its policy had let it go. None if no mark did.
+        held: Option<Hold>,
         /// Since when it was due.
         since: u64,
         /// For what reason.

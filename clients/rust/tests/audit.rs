@@ -10,7 +10,7 @@ fn with_history() -> Store {
 
 fn removal(moment: u64, version: (u64, u64), path: Option<&str>, since: u64, cause: Cause) -> Removal {
     let (file, number) = version;
-    Removal { moment, file, number, path: path.map(str::to_owned), since, cause }
+    Removal { moment, file, number, path: path.map(str::to_owned), held: None, since, cause }
 }
 
 #[test]
@@ -62,7 +62,7 @@ fn each_cause_of_a_removal_is_its_own() {
     ];
     assert_eq!(store.gone().unwrap().removals, wanted);
     let cause = Cause::Displaced { level: 1, by: 3 };
-    assert_eq!(store.why(version("/l", 2)), Ok(Fate::Removed { moment: 30, since: 28, cause }));
+    assert_eq!(store.why(version("/l", 2)), Ok(Fate::Removed { moment: 30, held: None, since: 28, cause }));
     assert_eq!(store.why(version("/l", 4)), Err(Error::NoVersion));
     // After a trim no stored event removed them. What is removed later has its path and cause.
     store.trim().unwrap();
@@ -70,7 +70,7 @@ fn each_cause_of_a_removal_is_its_own() {
     store.set_policy("/l", &Policy::KeepOne).unwrap();
     store.clean().unwrap();
     assert_eq!(store.gone().unwrap().removals, [removal(30, (2, 1), Some("/l"), 12, Cause::AtOnce)]);
-    assert_eq!(store.why(version("/l", 1)), Ok(Fate::Removed { moment: 30, since: 12, cause: Cause::AtOnce }));
+    assert_eq!(store.why(version("/l", 1)), Ok(Fate::Removed { moment: 30, held: None, since: 12, cause: Cause::AtOnce }));
 }
 
 #[test]
@@ -81,7 +81,7 @@ fn a_version_that_was_removed_is_explained_only_by_its_number() {
     store.clock(5).unwrap();
     store.save("/f", b"two").unwrap();
     let _ = store.pass(9);
-    assert_eq!(store.why(version("/f", 1)), Ok(Fate::Removed { moment: 5, since: 0, cause: Cause::AtOnce }));
+    assert_eq!(store.why(version("/f", 1)), Ok(Fate::Removed { moment: 5, held: None, since: 0, cause: Cause::AtOnce }));
     // At 1 it is version 2, which was removed too.
     assert_eq!(store.why(elephant::at("/f", 1)), Err(Error::Forgotten { last: None }));
     assert_eq!(store.why("/f"), Ok(Fate::Current));

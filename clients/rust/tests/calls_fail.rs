@@ -16,9 +16,9 @@ const UNTOLD: i32 = 71;
 const FORGOTTEN: i32 = 13;
 const FULL: i32 = 27;
 // Every code that the crate has an error for, but those two.
-const CODES: [i32; 36] = [
+const CODES: [i32; 39] = [
     1, 2, 3, 4, 5, 6, 7, 8, 9, 10, 11, 12, 14, 15, 16, 17, 18, 19, 20, 21, 22, 23, 24, 25, 26, 28, 29, 30, 31, 32, 41, 66, 67,
-    71, 72, 73,
+    71, 72, 73, 74, 75, 76,
 ];
 const FIRST: [u8; 9_000] = [1; 9_000];
 const CURRENT: [u8; 5_000] = [2; 5_000];

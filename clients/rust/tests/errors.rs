@@ -5,7 +5,7 @@ use std::collections::BTreeSet;
 use std::io::{self, ErrorKind};
 
 // The errors that are nothing but their number, with the number that include/elephant.h gives it, and its kind.
-const BARE: [(Error, i32, ErrorKind); 36] = [
+const BARE: [(Error, i32, ErrorKind); 39] = [
     (Error::NoMemory, 1, ErrorKind::OutOfMemory),
     (Error::HistoryFull, 2, ErrorKind::Other),
     (Error::ClockBack, 3, ErrorKind::Other),
@@ -42,6 +42,9 @@ const BARE: [(Error, i32, ErrorKind); 36] = [
     (Error::Untold, 71, ErrorKind::Other),
     (Error::BadCheckpoint, 72, ErrorKind::InvalidInput),
     (Error::HandlesOpen, 73, ErrorKind::Other),
+    (Error::NoJournal, 74, ErrorKind::Other),
+    (Error::HasJournal, 75, ErrorKind::Other),
+    (Error::BadJournal, 76, ErrorKind::InvalidInput),
 ];
 const LIMITS: [(Limit, &str); 8] = [
     (Limit::Files, "files"),

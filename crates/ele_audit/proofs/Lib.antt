@@ -3,6 +3,7 @@ mod Lengths
 mod Clocks
 pub mod Gathers
 mod Lines
+mod VersionMeant
 pub mod Numbered
 mod Sees
 mod Tells

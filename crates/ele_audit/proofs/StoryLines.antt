@@ -2,8 +2,8 @@
 use Rattle.ele_audit.proofs.Basics.{arith, nat_tests, ◌≡◌, ℕ, List, [], ◌∷◌, ◌++◌, append_assoc, codes, decimal, join_with_byte, refl, sym, ap, ◌∙◌, Option, Some, None}
 use Rattle.ele_audit.specs.AuditText.{path_or_dash}
 use Rattle.ele_name_paths.specs.LivePath.{names_in}
-use Rattle.ele_audit.specs.Rows.{spaced}
-use Rattle.ele_audit.specs.StoryText.{fate_or_dash, hold_words, info_words, name_story_line, removed_words, version_story_line}
+use Rattle.ele_audit.specs.HoldText.{hold_words, spaced}
+use Rattle.ele_audit.specs.StoryText.{fate_or_dash, info_words, name_story_line, removed_words, version_story_line}
 use Rattle.ele_audit.specs.declared.story_row.NameStory.{NameStory}
 use Rattle.ele_audit.specs.declared.story_row.VersionStory.{VersionStory}
 use Rattle.ele_model.specs.declared.rows.MarkRow.{MarkRow}
@@ -21,7 +21,7 @@ behind_append (x ∷ next ∷ xs) ys =
     ap (λ (rest : List ℕ). (32 ∷ x) ++ rest) (behind_append (next ∷ xs) ys) ∙ sym (append_assoc (32 ∷ x) (spaced (next ∷ xs)) (behind_word ys))
 
 -- the last words of a line are one of their own
-behind_line : (word : List ℕ) (words : List (List ℕ)) → behind_word (word ∷ words) ≡ 32 ∷ line_text (word ∷ words)
+pub behind_line : (word : List ℕ) (words : List (List ℕ)) → behind_word (word ∷ words) ≡ 32 ∷ line_text (word ∷ words)
 behind_line word words = ap (λ (rest : List ℕ). 32 ∷ rest) (sym (line_is word words))
 
 fate_or_dash_first : (fate : Option Fate) → (word : List ℕ) × (words : List (List ℕ)) × (fate_or_dash fate ≡ word ∷ words)

@@ -2,6 +2,7 @@
 use Rattle.std.specs.Prelude.{◌≡◌, ℕ, List, [], ◌∷◌, ◌++◌, codes, length, Option, Some, None}
 use Rattle.std.specs.Fmt.{decimal}
 use Rattle.std.specs.List.{flat_map}
+use Rattle.ele_holds.specs.declared.hold.Hold.{Hold}
 use Rattle.ele_model.specs.declared.entry.Entry.{Entry}
 use Rattle.ele_model.specs.declared.fate.Fate.{Fate}
 use Rattle.ele_model.specs.declared.rows.Reads.{Reads}
@@ -12,6 +13,7 @@ use Rattle.ele_printer.specs.HistoryText.{entry_line}
 use Rattle.ele_printer.specs.Printed.{IsReplyText, end_word}
 use Rattle.ele_model.specs.FateText.{fate_words}
 use Rattle.ele_name_paths.specs.LivePath.{names_in}
+use Rattle.ele_audit.specs.HoldText.{hold_words}
 use Rattle.ele_audit.specs.Open.{file_of}
 use Rattle.ele_audit.specs.declared.row.OpenHandle.{OpenHandle}
 use Rattle.ele_audit.specs.declared.row.Removed.{Removed}
@@ -28,19 +30,24 @@ abbrev pub gone_words : ℕ → Option Fate → List (List ℕ)
 gone_words ripe None = codes "due" ∷ decimal ripe ∷ []
 gone_words ripe (Some fate) = fate_words fate
 
--- the line of a removed version: when it was removed, its file and number, the path, and what had become of it
+-- the line of a removed version: when it was removed, its file and number, the path, the mark that held it after its policy had let it go, and
+-- what had become of it
 abbrev pub removed_line : Removed → List ℕ
 removed_line row =
-    line_text (codes "-" ∷ decimal row.at ∷ decimal row.key.file ∷ decimal row.key.number ∷ path_or_dash (names_in row.path) ∷ gone_words row.key.ripe row.fate)
+    line_text (codes "-" ∷ decimal row.at ∷ decimal row.key.file ∷ decimal row.key.number ∷ path_or_dash (names_in row.path) ∷ hold_words row.hold ++ gone_words row.key.ripe row.fate)
 
 -- the text of removed versions: how many entries were folded, how many rows there are, and a line for each
 abbrev pub gone_text : ℕ → List Removed → List ℕ
 gone_text folded rows =
     line_text (codes "ok gone" ∷ decimal folded ∷ decimal (length rows) ∷ []) ++ flat_map removed_line rows
 
--- the text of why a version was removed, and when
+-- the text of when a version was removed, the mark that held it after its policy had let it go, and what had become of it
 abbrev pub why_gone_text : Removed → List ℕ
-why_gone_text row = line_text (codes "ok why removed" ∷ decimal row.at ∷ gone_words row.key.ripe row.fate)
+why_gone_text row = line_text (codes "ok why removed" ∷ decimal row.at ∷ hold_words row.hold ++ gone_words row.key.ripe row.fate)
+
+-- the text of the fate of a version that a mark held after its policy had let it go
+abbrev pub why_held_text : Fate → Hold → List ℕ
+why_held_text fate hold = line_text (codes "ok why" ∷ hold_words (Some hold) ++ fate_words fate)
 
 -- ---- open handles
 

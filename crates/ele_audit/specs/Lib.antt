@@ -1,5 +1,7 @@
 pub mod AuditText
 pub mod Clock
+pub mod Held
+pub mod HoldText
 pub mod Open
 pub mod Removals
 pub mod Rows

@@ -17,6 +17,7 @@ use Rattle.ele_path.specs.declared.tagged.Tag.TheVariants as tag
 use Rattle.ele_path.specs.declared.tagged.TaggedPath.{TaggedPath}
 use Rattle.std.specs.List.{AllZip, list_any}
 use Rattle.ele_name_paths.specs.LivePath.{live_path, names_in}
+use Rattle.ele_audit.specs.Story.{hold_in}
 use Rattle.ele_audit.specs.declared.row.Removed.{Removed}
 
 -- ---- which entries removed a version
@@ -43,11 +44,13 @@ pub record IsRemoval (removal : World × Key) (row : Removed) : Type 0 where
   pub at : row.at ≡ removal.0.now
   pub key : row.key ≡ removal.1
 
--- and the path that led to the file in the world before it, and what had become of the version
+-- and the path that led to the file in the world before it, what had become of the version, and the mark that held it after its policy had
+-- let it go
 pub record IsExplained (removal : World × Key) (row : Removed) : Type 0 where
   pub is : IsRemoval removal row
   pub path : names_in row.path ≡ live_path removal.0.names (File removal.1.file)
   pub fate : MayHaveFate removal.0 removal.1 row.fate
+  pub hold : row.hold ≡ hold_in removal.0 removal.1.file removal.1.number row.fate
 
 -- the rows are those of the removals among the stored entries, in order
 abbrev pub AreRemoved : Past → List Removed → Type 0

@@ -1,5 +1,5 @@
--- A row among others, whose version a reply removed, and words of a line. No public clause cites this module.
-use Rattle.std.specs.Prelude.{ℕ, Bool, false, ◌==◌, ◌&&◌, List, [], ◌∷◌, ◌++◌}
+-- A row among others, and whose version a reply removed. No public clause cites this module.
+use Rattle.std.specs.Prelude.{ℕ, Bool, false, ◌==◌, ◌&&◌}
 use Rattle.ele_model.specs.declared.reply.Reply.{Reply}
 use Rattle.ele_model.specs.declared.reply.Reply.TheVariants as reply
 use Rattle.ele_audit.specs.declared.row.Removed.{Removed}
@@ -12,9 +12,3 @@ is_row_of file number row = (row.key.file == file) && (row.key.number == number)
 abbrev pub removes_from : ℕ → Reply → Bool
 removes_from file (reply.Removed key) = key.file == file
 removes_from file reply = false
-
--- the words, each with a space (32) before it
-abbrev pub spaced : List (List ℕ) → List ℕ
-spaced [] = []
-spaced (word ∷ []) = 32 ∷ word
-spaced (word ∷ words) = (32 ∷ word) ++ spaced words

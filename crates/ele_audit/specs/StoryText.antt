@@ -2,14 +2,14 @@
 use Rattle.std.specs.Prelude.{ℕ, ◌+◌, List, [], ◌∷◌, ◌++◌, codes, length, Option, Some, None, Result, Ok, Err}
 use Rattle.std.specs.Fmt.{decimal}
 use Rattle.std.specs.List.{flat_map}
-use Rattle.ele_holds.specs.declared.hold.Hold.{Hold}
-use Rattle.ele_model.specs.FateText.{fate_words, mark_word}
+use Rattle.ele_model.specs.FateText.{fate_words}
 use Rattle.ele_model.specs.declared.fate.Fate.{Fate}
 use Rattle.ele_model.specs.declared.refusal.Refusal.{Refusal}
 use Rattle.ele_model.specs.declared.rows.VersionInfo.{VersionInfo}
 use Rattle.ele_output.specs.Line.{line_text}
 use Rattle.ele_printer.specs.Printed.{end_word, refusal_text}
 use Rattle.ele_audit.specs.AuditText.{path_or_dash}
+use Rattle.ele_audit.specs.HoldText.{hold_words}
 use Rattle.ele_name_paths.specs.LivePath.{names_in}
 use Rattle.ele_audit.specs.declared.story_row.NameStory.{NameStory}
 use Rattle.ele_audit.specs.declared.story_row.Story.{Story}
@@ -29,11 +29,6 @@ fate_or_dash (Some fate) = fate_words fate
 abbrev pub removed_words : Option ℕ → List (List ℕ)
 removed_words None = []
 removed_words (Some moment) = codes "removed" ∷ decimal moment ∷ []
-
--- the words of the mark that held a version after its policy had let it go, none if no mark did
-abbrev pub hold_words : Option Hold → List (List ℕ)
-hold_words None = []
-hold_words (Some hold) = codes "held" ∷ hold.group ∷ mark_word hold.mark ∷ []
 
 -- the line of a version; a removed one has its removal, and then what had become of it
 abbrev pub version_story_line : VersionStory → List ℕ

@@ -5,6 +5,7 @@ ghost use Rattle.std.specs.List.{AllZip, list_any};
 ghost use Rattle.ele_model.specs.World.{World};
 ghost use Rattle.ele_audit.specs.Removals.{AreRemoved, HasRemovals, IsExplained, is_removal, removal_in};
 
+use crate::held::hold_in;
 use crate::row::Removed;
 use ele_history::History;
 use ele_model::{Entry, Explain, FromFlat, Key, NoMemory, Reply, Target};
@@ -17,7 +18,7 @@ use std::alloc::Global;
 ///
 /// `NoMemory` if memory is refused. If no stored entry removed a version, it takes none.
 /// Cost: that of a core made of the base and of all stored events on it, and for each removal a copy
-/// of the rows of names.
+/// of all rows.
 #[tactic(auto, using(crate::proofs::Numbered::no_rows))]
 pub fn removed<C: Explain + FromFlat>(
     alloc: Global,
@@ -32,8 +33,9 @@ pub fn removed<C: Explain + FromFlat>(
     gathered(alloc, history)
 }
 
-// Whether one of the entries removed a version.
-fn has_removals(entries: &[Entry]) -> bool
+/// Whether one of the entries removed a version.
+/// Cost: scans the entries.
+pub fn has_removals(entries: &[Entry]) -> bool
     ensures { result ≡ list_any (λ entry. is_removal entry.reply) entries.now }
 {
     entries.iter().any(|entry| is_removal(&entry.reply))
@@ -89,13 +91,17 @@ fn explain<C: Explain>(
 fn explained<C: Explain>(alloc: Global, core: &C, key: Key) -> Result<Removed, NoMemory>
     ensures { IfOk result (IsExplained (C.world core.now, key)) }
 {
-    let names = core.name_rows()?;
-    let path = path_of(alloc, Above::Live, &names, Target::File(key.file))?;
+    let world = core.flat()?;
+    let names = world.names.as_slice();
+    let path = path_of(alloc, Above::Live, names, Target::File(key.file))?;
+    let fate = core.fate(key.file, key.number);
+    let hold = hold_in(&world, key.file, key.number, &fate)?;
     Ok(Removed {
         at: core.now(),
         key,
         path,
-        fate: core.fate(key.file, key.number),
+        fate,
+        hold,
     })
 }
 

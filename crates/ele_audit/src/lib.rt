@@ -3,7 +3,10 @@
 #![tactic(auto)]
 
 mod gone;
+mod held;
+mod hold_text;
 mod listing;
+mod meant;
 mod row;
 mod seen;
 mod stories;
@@ -14,11 +17,16 @@ mod story_text;
 mod text;
 mod version;
 
-pub use gone::removed;
+pub use gone::{has_removals, removed};
+pub use held::hold_at;
+pub use hold_text::put_hold;
 pub use listing::open_handles;
 pub use row::{OpenHandle, Removed};
-pub use stories::{story, story_alone};
+pub use seen::name_story;
+pub use stories::{story, story_alone, version_story};
 pub use story_row::{NameStory, Story, VersionStory};
-pub use story_text::put_story;
-pub use text::{put_answers, put_gone, put_handles, put_why_gone};
+pub use story_text::{put_fate_or_dash, put_story};
+pub use text::{
+    put_answers, put_gone, put_handles, put_path, put_since, put_why_gone, put_why_held,
+};
 pub use version::removed_version;

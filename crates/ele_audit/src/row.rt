@@ -1,4 +1,5 @@
 //! The rows of an audit. A contract sees plain data.
+use ele_holds::Hold;
 use ele_model::{Fate, HandleRow, Key};
 use ele_moment::{Moment, Name};
 
@@ -13,6 +14,8 @@ pub struct Removed {
     pub path: Option<Vec<Name>>,
     /// Why it was due.
     pub fate: Option<Fate>,
+    /// The mark that held it after its policy had let it go. None if no mark did.
+    pub hold: Option<Hold>,
 }
 
 /// An open handle.

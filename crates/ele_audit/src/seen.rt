@@ -133,8 +133,11 @@ fn add_name(
     Ok(())
 }
 
-// What is known of the name.
-fn name_story(alloc: Global, rows: &[NameRow], row: &NameRow) -> Result<NameStory, NoMemory>
+/// Returns what is known of the name, which is one of the rows.
+///
+/// `NoMemory` if memory is refused.
+/// Cost: scans the rows for each name of the path, which takes memory.
+pub fn name_story(alloc: Global, rows: &[NameRow], row: &NameRow) -> Result<NameStory, NoMemory>
     ensures { IfOk result (IsNameStory rows.now row.now) }
 {
     let above = path_of(alloc, Above::Last, rows, Target::Directory(row.directory))?;

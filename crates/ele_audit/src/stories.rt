@@ -2,18 +2,18 @@
 ghost use Rattle.std.specs.Prelude.{◌≡◌, ◌++◌, ◌∷◌, [], IfOk, List, filter};
 ghost use Rattle.std.specs.List.{AllZip, list_any};
 ghost use Rattle.ele_audit.specs.Removals.{removal_in, removals};
-ghost use Rattle.ele_audit.specs.Story.{AreVersions, IsHeldNow, IsStory, IsVersionStory, WasRemoved, hold_in, is_removal_from};
+ghost use Rattle.ele_audit.specs.Story.{AreVersions, IsHeldNow, IsStory, IsVersionStory, WasRemoved, is_removal_from};
 ghost use Rattle.ele_audit.specs.Rows.{removes_from};
 ghost use Rattle.ele_history.specs.Past.{world_of};
 ghost use Rattle.ele_model.specs.FileView.{is_version_of};
 
+use crate::held::hold_in;
 use crate::seen::{Seen, seen_before, seen_of};
 use crate::story_file::file_told;
-use crate::story_info::{info_in, row_of};
+use crate::story_info::info_in;
 use crate::story_row::{Story, VersionStory};
 use ele_history::History;
-use ele_holds::{Hold, hold_of};
-use ele_model::{Entry, Explain, Fate, Flat, FromFlat, Key, NoMemory, Refusal, Reply, VersionRow};
+use ele_model::{Entry, Explain, Flat, FromFlat, Key, NoMemory, Refusal, Reply, VersionRow};
 use ele_moment::{FileId, Moment, VersionNo};
 use ele_path::Path;
 use ele_world::laws;
@@ -248,8 +248,12 @@ fn add_if_held<C: Explain>(
     Ok(())
 }
 
-// What the core's world knows of a version, which was removed at the moment, if there is one.
-fn version_story<C: Explain>(
+/// Returns what the core's world knows of a version, which was removed at the moment, if there is
+/// one. The world is a copy of the core's rows.
+///
+/// `NoMemory` if memory is refused.
+/// Cost: scans the versions, and of a due version also the groups, files and names.
+pub fn version_story<C: Explain>(
     core: &C,
     world: &Flat,
     file: FileId,
@@ -270,22 +274,4 @@ fn version_story<C: Explain>(
         hold,
         removed,
     })
-}
-
-// The mark that held a version after its policy had let it go, if it is due.
-fn hold_in(
-    world: &Flat,
-    file: FileId,
-    number: VersionNo,
-    fate: &Option<Fate>,
-) -> Result<Option<Hold>, NoMemory>
-    ensures { IfOk result (λ hold. hold ≡ hold_in world.entry.now file number fate.now) }
-{
-    let Some(Fate::Due { since, cause: _ }) = fate else {
-        return Ok(None);
-    };
-    match row_of(world.versions.as_slice(), file, number) {
-        Some(row) => hold_of(world, row, *since),
-        None => Ok(None),
-    }
 }

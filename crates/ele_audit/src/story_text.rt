@@ -1,20 +1,19 @@
 //! Prints the story of a file. A contract sees a printer as its outlet.
 ghost use Rattle.std.specs.Prelude.{◌≡◌, ◌+◌, ◌++◌, ◌∷◌, [], Ok, Some, codes, decimal, length};
 ghost use Rattle.std.specs.List.{flat_map};
-ghost use Rattle.ele_audit.specs.Rows.{spaced};
-ghost use Rattle.ele_audit.specs.StoryText.{fate_or_dash, hold_words, info_words, name_story_line, removed_words, story_text, version_story_line};
-ghost use Rattle.ele_model.specs.FateText.{mark_word};
+ghost use Rattle.ele_audit.specs.HoldText.{spaced};
+ghost use Rattle.ele_audit.specs.StoryText.{fate_or_dash, info_words, name_story_line, removed_words, story_text, version_story_line};
 ghost use Rattle.ele_output.specs.Line.{line_text};
 ghost use Rattle.ele_output.specs.Prints.{Prints};
 
+use crate::hold_text::put_hold;
 use crate::story_row::{NameStory, Story, VersionStory};
 use crate::text::{put_opening, put_since};
 use ele_commands::Word::Number;
-use ele_commands::{Piece, put_line_of};
-use ele_holds::Hold;
-use ele_model::{Fate, MarkRow, Refusal, VersionInfo};
+use ele_commands::put_line_of;
+use ele_model::{Fate, Refusal, VersionInfo};
 use ele_moment::Moment;
-use ele_output::{Printer, put_with_number, put_words};
+use ele_output::{Printer, put_with_number};
 use ele_printer::{put_fate, put_why};
 use std::io::Write;
 
@@ -137,27 +136,8 @@ fn put_removed_at<W: Write>(removed: &Option<Moment>, printer: &mut Printer<'_, 
     }
 }
 
-// Prints a space before each word of the mark that held a version, if one did.
-fn put_hold<W: Write>(hold: &Option<Hold>, printer: &mut Printer<'_, W>)
-    ensures { Prints W.contents printer.old printer.new (spaced (hold_words hold.now)) }
-{
-    match hold {
-        Some(hold) => put_held(hold.group.bytes(), &hold.mark, printer),
-        None => {}
-    }
-}
-
-// Prints the same of a mark of a group.
-fn put_held<W: Write>(group: &[u8], mark: &MarkRow, printer: &mut Printer<'_, W>)
-    ensures { Prints W.contents printer.old printer.new
-        (spaced (codes "held" ∷ group.now ∷ mark_word mark.now ∷ [])) }
-{
-    put_words(b" held", &[group], printer);
-    mark.put_piece(b" ", printer);
-}
-
-// Prints a space, a fate or a dash, and a line feed.
-fn put_fate_or_dash<W: Write>(fate: &Option<Fate>, printer: &mut Printer<'_, W>)
+/// Prints a space, a fate or a dash, and a line feed.
+pub fn put_fate_or_dash<W: Write>(fate: &Option<Fate>, printer: &mut Printer<'_, W>)
     ensures { Prints W.contents printer.old printer.new (32 ∷ line_text (fate_or_dash fate.now)) }
 {
     match fate {

@@ -1,7 +1,7 @@
 //! Prints the answers to an audit. A contract sees a printer as its outlet.
 ghost use Rattle.std.specs.Prelude.{◌≡◌, ◌∷◌, ◌++◌, [], List, ℕ, codes, decimal};
 ghost use Rattle.std.specs.List.{flat_map};
-ghost use Rattle.ele_audit.specs.AuditText.{AreAnswers, IsAnswersText, gone_text, gone_words, handle_line, handles_text, path_or_dash, read_word, removed_line, why_gone_text};
+ghost use Rattle.ele_audit.specs.AuditText.{AreAnswers, IsAnswersText, gone_text, gone_words, handle_line, handles_text, path_or_dash, read_word, removed_line, why_gone_text, why_held_text};
 ghost use Rattle.ele_name_paths.specs.LivePath.{names_in};
 ghost use Rattle.ele_audit.specs.Open.{file_of};
 ghost use Rattle.ele_output.specs.Line.{line_text};
@@ -10,9 +10,11 @@ ghost use Rattle.ele_path.specs.PathText.{path_word};
 ghost use Rattle.ele_printer.specs.HistoryText.{entry_line};
 ghost use Rattle.ele_printer.specs.Printed.{IsReplyText, end_word};
 
+use crate::hold_text::put_hold;
 use crate::row::{OpenHandle, Removed};
 use ele_commands::Word::{self, Number};
 use ele_commands::{put_event_line, put_line_of};
+use ele_holds::Hold;
 use ele_model::{Entry, Fate, HandleRow, Key, Reads};
 use ele_moment::{Moment, Name};
 use ele_output::{Printer, put_with_number};
@@ -43,6 +45,7 @@ fn put_removed<W: Write>(row: &Removed, printer: &mut Printer<'_, W>)
 {
     put_version(row.at, &row.key, printer);
     put_path(&row.path, printer);
+    put_hold(&row.hold, printer);
     put_gone_words(row.key.ripe, &row.fate, printer);
 }
 
@@ -89,12 +92,22 @@ fn put_numbers<W: Write>(first: u64, second: u64, printer: &mut Printer<'_, W>)
     put_with_number(b" ", second, printer);
 }
 
-/// Prints when a version was removed, and why.
+/// Prints when a version was removed, the mark that held it longer than its policy, and why it was due.
 pub fn put_why_gone<W: Write>(removed: &Removed, printer: &mut Printer<'_, W>)
     ensures { Prints W.contents printer.old printer.new (why_gone_text removed.now) }
 {
     put_with_number(b"ok why removed ", removed.at.seconds(), printer);
+    put_hold(&removed.hold, printer);
     put_gone_words(removed.key.ripe, &removed.fate, printer);
+}
+
+/// Prints the mark that held a version after its policy had let it go, and the version's fate.
+pub fn put_why_held<W: Write>(fate: &Fate, hold: &Hold, printer: &mut Printer<'_, W>)
+    ensures { Prints W.contents printer.old printer.new (why_held_text fate.now hold.now) }
+{
+    printer.put(b"ok why");
+    put_hold(&Some(*hold), printer);
+    put_fate(fate, printer);
 }
 
 /// Prints how many handles are open, and a line for each.
@@ -166,7 +179,7 @@ fn put_read<W: Write>(reads: &Reads, printer: &mut Printer<'_, W>)
 }
 
 /// Prints a space and the seconds of a moment, or `-`.
-pub(crate) fn put_since<W: Write>(since: &Option<Moment>, printer: &mut Printer<'_, W>)
+pub fn put_since<W: Write>(since: &Option<Moment>, printer: &mut Printer<'_, W>)
     ensures { Prints W.contents printer.old printer.new (32 ∷ end_word since.now) }
 {
     match since {
@@ -175,8 +188,8 @@ pub(crate) fn put_since<W: Write>(since: &Option<Moment>, printer: &mut Printer<
     }
 }
 
-// Prints a space and a path, or `-`.
-fn put_path<W: Write>(path: &Option<Vec<Name>>, printer: &mut Printer<'_, W>)
+/// Prints a space and a path, or `-`.
+pub fn put_path<W: Write>(path: &Option<Vec<Name>>, printer: &mut Printer<'_, W>)
     ensures { Prints W.contents printer.old printer.new (32 ∷ path_or_dash (names_in path.now)) }
 {
     match path {

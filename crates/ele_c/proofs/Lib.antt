@@ -1,2 +1,3 @@
 pub mod AsHandle
 pub mod AsStore
+pub mod Files

@@ -11,6 +11,7 @@ mod checkpoints;
 mod events;
 mod fresh;
 mod handle;
+mod journals;
 mod lines;
 mod opens;
 mod renewal;

@@ -3,8 +3,14 @@ use Rattle.std.specs.Prelude.{ℕ, ◌+◌, ◌-◌, ◌^◌, length, Option, So
 use Rattle.ele_embed.specs.Embedding.{Embedding, reply_of}
 use Rattle.ele_embed.specs.declared.checkpoint.CheckpointError.{CheckpointError}
 use Rattle.ele_embed.specs.declared.checkpoint.CheckpointError.TheVariants as checkpoint
+use Rattle.ele_embed.specs.declared.journal.JournalError.{JournalError}
+use Rattle.ele_embed.specs.declared.journal.JournalError.TheVariants as journal
+use Rattle.ele_embed.specs.declared.opening.OpenJournalError.{OpenJournalError}
+use Rattle.ele_embed.specs.declared.opening.OpenJournalError.TheVariants as opening
 use Rattle.ele_embed.specs.declared.renewal.RenewalError.{RenewalError}
 use Rattle.ele_embed.specs.declared.renewal.RenewalError.TheVariants as renewal
+use Rattle.ele_journal.specs.declared.fault.Fault.{Fault}
+use Rattle.ele_journal.specs.declared.fault.Fault.TheVariants as faults
 use Rattle.ele_model.specs.Answers.{refusal_number, stop_number}
 use Rattle.ele_model.specs.declared.pass.PassEnd.TheVariants.{Stopped as PassStopped}
 use Rattle.ele_model.specs.declared.refusal.Refusal.{Refusal}
@@ -15,7 +21,7 @@ use Rattle.ele_model.specs.declared.reply.Reply.{Reply}
 use Rattle.ele_model.specs.declared.reply.Reply.TheVariants.{Now, Directory, File, Handle, Version, Closed, Bytes, Rows, NameList, RestoreList, DueList, UsageList, GroupList, Refused}
 use Rattle.ele_printer.specs.LineFault.{fault_number}
 use Rattle.ele_runs.specs.declared.said.Said.{Said}
-use Rattle.ele_runs.specs.declared.said.Said.TheVariants.{Bad, Stopped, Passed, Trimmed, Why, Ahead, Gone, Handles, Story}
+use Rattle.ele_runs.specs.declared.said.Said.TheVariants.{Bad, Stopped, Passed, Trimmed, Why, Ahead, Gone, Handles, Story, Removals, Changes}
 
 -- neither a moment nor a level
 abbrev pub never : ℕ
@@ -33,20 +39,38 @@ said_code (Passed (PassStopped stop removed)) reply = stop_number stop
 said_code (Why (Err refusal)) reply = refusal_number refusal
 said_code (Ahead (Err refusal)) reply = refusal_number refusal
 said_code (Story (Err refusal)) reply = refusal_number refusal
+said_code (Changes (Err refusal)) reply = refusal_number refusal
 said_code said reply = reply_code reply
 
 abbrev pub code_of : Embedding → ℕ
 code_of store = said_code store.said (reply_of store)
 
--- the code of an error: that of a stop, 72 of bytes that have no world in which a run may begin, 73 of an open handle
+-- the code of an error: that of a stop, 72 of bytes that have no world in which a run may begin, 73 of an open handle, 74 of a store
+-- without a journal, 75 of one with a journal, 76 of bytes that are no file of a store
 abbrev pub checkpoint_code : CheckpointError → ℕ
 checkpoint_code (checkpoint.Damaged damage) = 72
 checkpoint_code (checkpoint.Fault fault) = 72
 checkpoint_code (checkpoint.Stop stop) = stop_number stop
 
 abbrev pub renewal_code : RenewalError → ℕ
+renewal_code renewal.HasJournal = 75
 renewal_code renewal.Open = 73
 renewal_code (renewal.Stop stop) = stop_number stop
+
+abbrev pub journal_code : JournalError → ℕ
+journal_code journal.NoJournal = 74
+journal_code journal.HasJournal = 75
+journal_code journal.NoMemory = 1
+
+abbrev pub opening_code : OpenJournalError → ℕ
+opening_code (opening.Stop stop) = stop_number stop
+opening_code error = 76
+
+-- what follows the whole changes of a file: 0 nothing, 1 the front of a change, 2 damage
+abbrev pub rest_number : Option Fault → ℕ
+rest_number None = 0
+rest_number (Some faults.Cut) = 1
+rest_number (Some (faults.Damaged damage)) = 2
 
 -- the number in a reply; for a list and for bytes, how many there are
 abbrev pub reply_number : Option Reply → ℕ
@@ -71,6 +95,8 @@ said_number (Ahead (Ok keys)) reply = length keys
 said_number (Gone rows) reply = length rows.items
 said_number (Handles handles) reply = length handles.items
 said_number (Story (Ok story)) reply = length story.versions.items + length story.names.items
+said_number (Removals rows) reply = length rows.items
+said_number (Changes (Ok found)) reply = length found.rows.items
 said_number said reply = reply_number reply
 
 abbrev pub number_of : Embedding → ℕ

@@ -51,6 +51,7 @@ pass_in other = Err (pos 68)
 
 abbrev pub why_in : Said → Result Numbers ℤ
 why_in (said.Why (Ok fate)) = Ok (fate_numbers fate)
+why_in (said.WhyHeld fate hold) = Ok (fate_numbers fate)
 why_in other = Err (pos 68)
 
 abbrev pub due_in : Option Reply → ℕ → Result Numbers ℤ

@@ -2,9 +2,11 @@
 ghost use Rattle.std.specs.Prelude.{◌≡◌, pos};
 ghost use Rattle.std.specs.Option.{option_copied};
 ghost use Rattle.ele_c_values.specs.Numbers.{or_never};
-ghost use Rattle.ele_c_values.specs.Codes.{checkpoint_code, code_of, detail_in, detail_of, limit_number, number_of, number_or_zero, renewal_code, reply_code, reply_detail, reply_number};
+ghost use Rattle.ele_c_values.specs.Codes.{checkpoint_code, code_of, detail_in, detail_of, journal_code, limit_number, number_of, number_or_zero, opening_code, renewal_code, reply_code, reply_detail, reply_number, rest_number};
 
-use ele_embed::{CheckpointError, RenewalError, Said, Store};
+use ele_embed::{
+    CheckpointError, Fault, JournalError, OpenJournalError, RenewalError, Said, Store,
+};
 use ele_model::{Moment, PassEnd, Refusal, Reply, VersionNo, Which};
 
 /// Success.
@@ -31,6 +33,12 @@ pub const UNTOLD: i32 = 71;
 pub const BAD_CHECKPOINT: i32 = 72;
 /// A handle is open.
 pub const HANDLES_OPEN: i32 = 73;
+/// The store has no journal.
+pub const NO_JOURNAL: i32 = 74;
+/// The store has a journal.
+pub const HAS_JOURNAL: i32 = 75;
+/// The bytes are no file of a store.
+pub const BAD_JOURNAL: i32 = 76;
 
 /// Neither a moment nor a level.
 pub const NEVER: u64 = u64::MAX;
@@ -56,6 +64,7 @@ pub fn code_of(store: &Store) -> i32
         Said::Why(Err(refusal)) => refusal.number() as i32,
         Said::Ahead(Err(refusal)) => refusal.number() as i32,
         Said::Story(Err(refusal)) => refusal.number() as i32,
+        Said::Changes(Err(refusal)) => refusal.number() as i32,
         _ => reply_code(store.reply()),
     }
 }
@@ -85,8 +94,42 @@ pub fn renewal_code(error: RenewalError) -> i32
     ensures { result ≡ pos (renewal_code error) }
 {
     match error {
+        RenewalError::HasJournal => HAS_JOURNAL,
         RenewalError::Open => HANDLES_OPEN,
         RenewalError::Stop(stop) => stop.number() as i32,
+    }
+}
+
+/// Returns the code of an error of a journal.
+pub fn journal_code(error: JournalError) -> i32
+    ensures { result ≡ pos (journal_code error) }
+{
+    match error {
+        JournalError::NoJournal => NO_JOURNAL,
+        JournalError::HasJournal => HAS_JOURNAL,
+        JournalError::NoMemory => NO_MEMORY,
+    }
+}
+
+/// Returns the code of an error of the bytes of a file.
+pub fn opening_code(error: OpenJournalError) -> i32
+    ensures { result ≡ pos (opening_code error) }
+{
+    match error {
+        OpenJournalError::Cut | OpenJournalError::Head => BAD_JOURNAL,
+        OpenJournalError::Damaged(_) | OpenJournalError::Fault(_) => BAD_JOURNAL,
+        OpenJournalError::Stop(stop) => stop.number() as i32,
+    }
+}
+
+/// Returns the number of what follows the whole changes of a file.
+pub fn rest_number(fault: Option<Fault>) -> u32
+    ensures { result ≡ rest_number fault }
+{
+    match fault {
+        None => 0,
+        Some(Fault::Cut) => 1,
+        Some(Fault::Damaged(_)) => 2,
     }
 }
 
@@ -100,6 +143,8 @@ pub fn number_of(store: &Store) -> u64
         Said::Gone(rows) => rows.len() as u64,
         Said::Handles(handles) => handles.len() as u64,
         Said::Story(Ok(story)) => story.versions.len() as u64 + story.names.len() as u64,
+        Said::Removals(rows) => rows.len() as u64,
+        Said::Changes(Ok(found)) => found.rows.len() as u64,
         _ => reply_number(store.reply()),
     }
 }

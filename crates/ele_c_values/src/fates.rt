@@ -14,6 +14,7 @@ pub(crate) fn why_in(said: &Said) -> Result<Numbers, i32>
 {
     match said {
         Said::Why(Ok(fate)) => Ok(fate_numbers(fate)),
+        Said::WhyHeld(fate, _) => Ok(fate_numbers(fate)),
         _ => Err(NO_RESULT),
     }
 }

@@ -1,2 +1,3 @@
+pub mod BothMoments
 pub mod Changes
 pub mod Names

@@ -5,6 +5,7 @@
 mod among;
 mod change;
 mod difference;
+pub mod laws;
 mod names;
 mod told;
 mod version;

@@ -19,7 +19,7 @@ takes words kinds = record { words = words; kinds = kinds; when = Always }
 abbrev pub asks : List (List ℕ) → List WordKind → Row
 asks words kinds = record { words = words; kinds = kinds; when = Explaining }
 
--- a command's row; a last word that is an end may be left out
+-- a command's row; a last word that is an end, or a path after moments, may be left out
 abbrev pub row : Command → Row
 row command.Ahead = asks (codes "ahead" ∷ []) (Moment ∷ [])
 row command.Answers = asks (codes "answers" ∷ []) []
@@ -28,6 +28,7 @@ row command.Clock = takes (codes "clock" ∷ []) (Moment ∷ [])
 row command.Close = takes (codes "close" ∷ []) (Handle ∷ [])
 row command.Clean = takes (codes "clean" ∷ []) []
 row command.Create = takes (codes "create" ∷ []) (Path ∷ [])
+row command.Changes = asks (codes "changes" ∷ []) (Moment ∷ Moment ∷ Path ∷ [])
 row command.Due = takes (codes "due" ∷ []) []
 row command.Default = takes (codes "default" ∷ []) (Path ∷ Policy ∷ [])
 row command.GroupMake = takes (codes "group" ∷ codes "make" ∷ []) (Name ∷ [])
@@ -53,6 +54,7 @@ row command.Revert = takes (codes "revert" ∷ []) (Path ∷ Version ∷ [])
 row command.Restore = takes (codes "restore" ∷ []) (Path ∷ Moment ∷ [])
 row command.RemoveDir = takes (codes "rmdir" ∷ []) (Path ∷ [])
 row command.Restorable = takes (codes "restorable" ∷ []) []
+row command.Removals = asks (codes "removals" ∷ []) []
 row command.Save = takes (codes "save" ∷ []) (Path ∷ Bytes ∷ [])
 row command.Stat = takes (codes "stat" ∷ []) (Tagged ∷ [])
 row command.Story = asks (codes "story" ∷ []) (Path ∷ [])

@@ -18,6 +18,7 @@ pub enum Command {
     Close,
     Clean,
     Create,
+    Changes,
     Due,
     Default,
     GroupMake,
@@ -43,6 +44,7 @@ pub enum Command {
     Restore,
     RemoveDir,
     Restorable,
+    Removals,
     Save,
     Stat,
     Story,
@@ -79,7 +81,7 @@ pub type Row = (
 
 /// A row for each command, in the order of `Command`: those with one first letter stand together, and
 /// of these the ones that come often first.
-pub static ROWS: [Row; 45] = [
+pub static ROWS: [Row; 47] = [
     (Command::Ahead, "ahead", "", &[Moment], Explaining),
     (Command::Answers, "answers", "", &[], Explaining),
     (Command::Abandon, "abandon", "", &[Handle], Always),
@@ -87,6 +89,13 @@ pub static ROWS: [Row; 45] = [
     (Command::Close, "close", "", &[Handle], Always),
     (Command::Clean, "clean", "", &[], Always),
     (Command::Create, "create", "", &[Path], Always),
+    (
+        Command::Changes,
+        "changes",
+        "",
+        &[Moment, Moment, Path],
+        Explaining,
+    ),
     (Command::Due, "due", "", &[], Always),
     (Command::Default, "default", "", &[Path, Policy], Always),
     (Command::GroupMake, "group", "make", &[Name], Always),
@@ -118,6 +127,7 @@ pub static ROWS: [Row; 45] = [
     (Command::Restore, "restore", "", &[Path, Moment], Always),
     (Command::RemoveDir, "rmdir", "", &[Path], Always),
     (Command::Restorable, "restorable", "", &[], Always),
+    (Command::Removals, "removals", "", &[], Explaining),
     (Command::Save, "save", "", &[Path, Bytes], Always),
     (Command::Stat, "stat", "", &[Tagged], Always),
     (Command::Story, "story", "", &[Path], Explaining),
@@ -163,7 +173,7 @@ pub enum Topic {
 }
 
 /// For help, what each command is about and how it is answered, in the order of `Command`.
-pub static HELP: [(Topic, &str); 45] = [
+pub static HELP: [(Topic, &str); 47] = [
     (
         Topic::Why,
         "ok ahead K, then K lines - RIPE FILE NUMBER in order",
@@ -180,6 +190,10 @@ pub static HELP: [(Topic, &str); 45] = [
         "ok removed RIPE FILE NUMBER, or ok nothing",
     ),
     (Topic::Names, "ok file F"),
+    (
+        Topic::Why,
+        "ok changes K, then K lines - KIND TARGET V V PATH PATH in order",
+    ),
     (
         Topic::Questions,
         "ok due K, then K lines - RIPE FILE NUMBER in order",
@@ -228,6 +242,10 @@ pub static HELP: [(Topic, &str); 45] = [
     (
         Topic::Questions,
         "ok restorable K, then K lines - DIR NAME file F or - DIR NAME directory D in order",
+    ),
+    (
+        Topic::Why,
+        "ok removals F K, then K lines - MOMENT FILE NUMBER PATH UNTIL FATE in order",
     ),
     (Topic::Contents, "ok version V"),
     (

@@ -33,18 +33,20 @@ stopped bytes history NoMemory flat are full = tt
 stopped bytes history HistoryFull flat are full = let it = full refl in (it.0, (flat, are, it.1))
 
 -- no fresh rows
-pub not_fresh : (state : Kept) (w : World) (error : RenewalError) → w ≡ world_in state → (error ≡ renewals.Open → IsClosed w → ⊥) → error ≢ renewals.Stop HistoryFull → IsNotRenewed state error
-not_fresh state w renewals.Open is held room = subst (λ v. IsClosed v → ⊥) is (held refl)
-not_fresh state w (renewals.Stop NoMemory) is held room = tt
-not_fresh state w (renewals.Stop HistoryFull) is held room = absurd (room refl)
+pub not_fresh : (state : Kept) (w : World) (error : RenewalError) → w ≡ world_in state → (error ≡ renewals.Open → IsClosed w → ⊥) → error ≢ renewals.Stop HistoryFull → error ≢ renewals.HasJournal → IsNotRenewed state error
+not_fresh state w renewals.HasJournal is held room bare = absurd (bare refl)
+not_fresh state w renewals.Open is held room bare = subst (λ v. IsClosed v → ⊥) is (held refl)
+not_fresh state w (renewals.Stop NoMemory) is held room bare = tt
+not_fresh state w (renewals.Stop HistoryFull) is held room bare = absurd (room refl)
 
 -- no core of fresh rows
 pub not_plain : (w : World) (last : Option Reply) (error : RenewalError) → error ≡ renewals.Stop NoMemory → IsNotRenewed (Plain w last) error
 not_plain w last error is = rw is tt
 
 -- no history of fresh rows
-pub not_recorded : (past : Past) (flat w : World) (error : RenewalError) → flat ≡ renewed w → w ≡ world_of past → error ≢ renewals.Open → (error ≡ renewals.Stop HistoryFull → flat.limits.events < 1) → IsNotRenewed (Recorded past) error
-not_recorded past flat w renewals.Open made is held room = absurd (held refl)
-not_recorded past flat w (renewals.Stop NoMemory) made is held room = tt
-not_recorded past flat w (renewals.Stop HistoryFull) made is held room =
+pub not_recorded : (past : Past) (flat w : World) (error : RenewalError) → flat ≡ renewed w → w ≡ world_of past → error ≢ renewals.Open → error ≢ renewals.HasJournal → (error ≡ renewals.Stop HistoryFull → flat.limits.events < 1) → IsNotRenewed (Recorded past) error
+not_recorded past flat w renewals.HasJournal made is held bare room = absurd (bare refl)
+not_recorded past flat w renewals.Open made is held bare room = absurd (held refl)
+not_recorded past flat w (renewals.Stop NoMemory) made is held bare room = tt
+not_recorded past flat w (renewals.Stop HistoryFull) made is held bare room =
     (refl, subst (λ v. v.limits.events < 1) is (subst (λ v. v.limits.events < 1) made (room refl)))

@@ -12,7 +12,7 @@ use Rattle.ele_model.specs.declared.pass.PassEnd.TheVariants.{Stopped}
 use Rattle.ele_model.specs.declared.refusal.Stop.{Stop}
 use Rattle.ele_embed.specs.Hears.{Hears}
 use Rattle.ele_embed.specs.Text.{IsRunBlock, IsTold}
-use Rattle.ele_runs.specs.Kept.{Kept, Plain, Recorded, TakesSome, has_past, past_in}
+use Rattle.ele_runs.specs.Kept.{Kept, Plain, Recorded, Journaled, TakesSome, has_past, past_in}
 use Rattle.ele_runs.specs.declared.said.Said.{Said}
 
 -- memory stopped an event that the step doesn't refuse
@@ -27,6 +27,7 @@ unstopped end on stop removed is = absurd (let never = rw is at on in cc)
 pub no_past : (kept : Kept) → has_past kept ≡ false → past_in kept ≡ None
 no_past (Plain w last) none = refl
 no_past (Recorded past) none = absurd cc
+no_past (Journaled kept journal) none = no_past kept none
 
 -- the text of a line is the block that a run writes
 pub run_block : (before after : Kept) (line : List ℕ) (said : Said) (text : List ℕ) → Hears before line said after → IsTold after said text → IsRunBlock before line after text

@@ -6,9 +6,9 @@ use Rattle.ele_model.specs.World.{fresh_world}
 use Rattle.ele_model.specs.declared.reply.Reply.{Reply}
 use Rattle.ele_runs.specs.declared.said.Said.{Said}
 use Rattle.ele_runs.specs.declared.said.Said.TheVariants.{Nothing, Replied}
-pub use Rattle.ele_runs.specs.Kept.{Kept, Plain, Recorded, last_in, past_in, world_in}
+pub use Rattle.ele_runs.specs.Kept.{Kept, Plain, Recorded, Journaled, journal_in, last_in, past_in, world_in}
 
--- a world with the reply to the last event, or a history
+-- a world with the reply to the last event, or a history; or one of these with its journal
 abbrev pub State : Type 0
 State = Kept
 

@@ -5,3 +5,7 @@ pub mod Text
 pub mod Kept
 pub mod Checkpoints
 pub mod Renewal
+pub mod Journals
+pub mod Replays
+pub mod FilesKeep
+pub mod StateCode

@@ -6,7 +6,7 @@ ghost use Rattle.std.specs.Prelude.{◌≡◌, ◌<◌, ◌≤◌, ◌+◌, ◌+
 ghost use Rattle.std.specs.Option.{option_copied};
 ghost use Rattle.ele_embed.specs.Embedding.{Plain, Recorded, events_in, fresh_plain, fresh_recorded, opened, reply_of, world_in, past_in};
 ghost use Rattle.ele_embed.specs.Hears.{Hears, explaining};
-ghost use Rattle.ele_embed.specs.Kept.{state_of};
+ghost use Rattle.ele_embed.specs.Kept.{journaled_state, state_of};
 ghost use Rattle.ele_embed.specs.Takes.{CopiesRead, Runs, Passes, FoldsOrNot, TellsWhy, TellsAhead};
 ghost use Rattle.ele_embed.specs.Text.{IsLong, IsTold, IsRunBlock};
 ghost use Rattle.ele_model.specs.CountsOf.{counts_of};
@@ -16,16 +16,24 @@ ghost use Rattle.ele_runs.specs.declared.said.Said.TheVariants as said;
 
 mod checkpoint;
 mod from_flat;
+mod journal;
+mod journaled;
 mod keeper;
+pub mod laws;
+mod opening;
 mod renewal;
 
 pub use crate::checkpoint::CheckpointError;
 pub use crate::from_flat::OpenError;
+pub use crate::journal::JournalError;
+use crate::journaled::JournaledKeeper;
 use crate::keeper::Keeper;
+pub use crate::opening::{OpenJournalError, OpenedStore};
 pub use crate::renewal::RenewalError;
 pub use ele_core::Copied;
 use ele_core::Core;
 use ele_history::History;
+pub use ele_journal::Fault;
 use ele_model::{
     Counts, Event, Limits, Moment, NoMemory, PassEnd, Refusal, Reply, Source, TaggedPath,
 };
@@ -40,7 +48,7 @@ use std::marker::Model;
 /// A store, the answer to its last call, and the last text that it made.
 #[derive(Drop)]
 pub struct Store {
-    keeper: Keeper,
+    keeper: JournaledKeeper,
     said: Said,
     answer: Vec<u8>,
     alloc: Global,
@@ -49,12 +57,17 @@ pub struct Store {
 impl Model for Store {
     ghost use Rattle.std.specs.Prelude.{◌≤◌, vec_capacity};
     ghost use Rattle.ele_embed.specs.Embedding.{Embedding};
-    ghost use Rattle.ele_embed.specs.Kept.{state_of};
+    ghost use Rattle.ele_embed.specs.Kept.{journaled_state, state_of};
+    ghost use Rattle.ele_embed.specs.StateCode.{state_code};
     ghost use Rattle.ele_output.specs.Outlet.{room};
+    ghost use Rattle.std.specs.Coded.{codes};
 
     ghost Value = { Embedding };
 
-    ghost view = { λ s. record { state = state_of s.keeper; said = s.said; answer = s.answer.items } };
+    // A state may hold another, within its journal.
+    ghost coded = { Prim.hlevel (codes, state_code) };
+
+    ghost view = { λ s. record { state = journaled_state s.keeper; said = s.said; answer = s.answer.items } };
 
     // A text that a printer's buffer has room for takes no memory.
     ghost invariant = { λ s. room ≤ vec_capacity s.answer };
@@ -86,7 +99,11 @@ impl Store {
         ensures { IfOk result (λ store. store ≡ opened (state_of keeper)) }
     {
         Ok(Store {
-            keeper,
+            keeper: JournaledKeeper {
+                bare: keeper,
+                journal: None,
+                alloc,
+            },
             said: Said::Nothing,
             answer: Vec::with_capacity(alloc, ROOM)?,
             alloc,
@@ -269,14 +286,14 @@ fn explaining() -> RunOptions
 // memory for a long one was refused.
 fn write_said(
     said: &Said,
-    keeper: &Keeper,
+    keeper: &JournaledKeeper,
     alloc: Global,
     answer: &mut Vec<u8>,
 ) -> Result<(), WriteFault>
     requires empty { answer.old.items ≡ [] }
     requires room { room ≤ vec_capacity answer.old }
-    ensures ok { OnOk result (IsTold (state_of keeper.now) said.now answer.new.items) }
-    ensures long { OnErr result (IsLong (state_of keeper.now) said.now) }
+    ensures ok { OnOk result (IsTold (journaled_state keeper.now) said.now answer.new.items) }
+    ensures long { OnErr result (IsLong (journaled_state keeper.now) said.now) }
     ensures room { room ≤ vec_capacity answer.new }
 {
     // What the printer had no room for, which comes before what it holds.
@@ -292,8 +309,8 @@ fn write_said(
 }
 
 // Prints the text of an answer.
-fn put_said<W: Write>(said: &Said, keeper: &Keeper, printer: &mut Printer<'_, W>)
-    ensures { (text : List ℕ) × IsTold (state_of keeper.now) said.now text
+fn put_said<W: Write>(said: &Said, keeper: &JournaledKeeper, printer: &mut Printer<'_, W>)
+    ensures { (text : List ℕ) × IsTold (journaled_state keeper.now) said.now text
         × Prints W.contents printer.old printer.new text }
 {
     match keeper.history() {

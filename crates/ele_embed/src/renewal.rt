@@ -23,6 +23,10 @@ use thiserror::Error;
 /// Why a store wasn't renewed. The store is as it was.
 #[derive(Clone, Copy, Debug, PartialEq, Eq, Error)]
 pub enum RenewalError {
+    /// The store has a journal, whose file has the old numbers. Renew a store that is made of its
+    /// checkpoint, and begin a journal of that one.
+    #[error("the store has a journal")]
+    HasJournal,
     /// A handle is open. Close all handles first.
     #[error("a handle is open")]
     Open,
@@ -36,17 +40,21 @@ impl Store {
     /// history begins anew there, with one folded entry, and nothing else of it is kept. The last answer
     /// is dropped, because its numbers are the old ones; the text stays.
     ///
-    /// `Open` if a handle is open. `Stop` for memory, or with `HistoryFull` if the limits allow a
-    /// history no entry. Each error leaves the store as it was.
+    /// `HasJournal` if it has a journal, `Open` if a handle is open. `Stop` for memory, or with
+    /// `HistoryFull` if the limits allow a history no entry. Each error leaves the store as it was.
     /// Cost: grows with the rows and cells times the logarithm of their number, and with the bytes; takes
     /// memory for two more copies of them.
+    #[tactic(auto, using(crate::proofs::Journaling::world_with))]
     pub fn renew(&mut self) -> Result<(), RenewalError>
         ensures ok { OnOk result (self.new ≡ renewed_store self.old) }
         ensures closed { OnOk result (IsClosed (world_in self.old.state)) }
         ensures unchanged { OnErr result (self.new ≡ self.old) }
         ensures err { IfErr result (IsNotRenewed self.old.state) }
     {
-        self.keeper = renewed(self.alloc, &self.keeper)?;
+        if self.keeper.journal.is_some() {
+            return Err(RenewalError::HasJournal);
+        }
+        self.keeper.bare = renewed(self.alloc, &self.keeper.bare)?;
         self.said = Said::Nothing;
         Ok(())
     }
@@ -109,6 +117,7 @@ fn fresh_rows(alloc: Global, core: &Core) -> Result<Flat, RenewalError>
     ensures open { IfErr result (λ error. error ≡ RenewalError.Open
         → IsClosed core.now.world → ⊥) }
     ensures room { IfErr result (λ error. error ≢ RenewalError.Stop stops.HistoryFull) }
+    ensures bare { IfErr result (λ error. error ≢ RenewalError.HasJournal) }
 {
     // For the proof: a run may begin in the renewed world.
     ele_renewal::laws::renewed_is_start();
@@ -156,6 +165,7 @@ fn recorded_keeper(alloc: Global, flat: Flat) -> Result<Keeper, RenewalError>
     requires { IsStart flat }
     ensures ok { IfOk result (λ keeper. state_of keeper ≡ Recorded (begun_from flat 1)) }
     ensures err { IfErr result (λ error. error ≢ RenewalError.Open) }
+    ensures bare { IfErr result (λ error. error ≢ RenewalError.HasJournal) }
     ensures room { IfErr result (λ error. error ≡ RenewalError.Stop stops.HistoryFull
         → flat.limits.events < 1) }
 {

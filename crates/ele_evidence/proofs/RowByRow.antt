@@ -1,5 +1,5 @@
 -- A text that is checked row by row.
-use Rattle.ele_evidence.proofs.Basics.{AllZip, Err, List, None, Ok, Option, Result, Some, [], ap, append_cancel_left, inl, inr, append-nil, append_assoc, arith, length, length-append, refl, subst, sym, take, ℕ, ◌++◌, ◌+◌, ◌-◌, ◌∙◌, ◌∷◌, ◌≡◌, ◌≢◌, ◌≤◌, ◌⊎◌}
+use Rattle.ele_evidence.proofs.Basics.{AllZip, Err, List, None, Ok, Option, Result, Some, [], ap, append_cancel_left, inl, inr, append-nil, append_assoc, arith, length, length-append, subst, sym, take, ℕ, ◌++◌, ◌-◌, ◌∙◌, ◌∷◌, ◌≡◌, ◌≢◌, ◌⊎◌}
 use Rattle.ele_chain.proofs.Grows.{last_goes_on}
 use Rattle.ele_chain.specs.Chain.{chained, hash_line, last_hash}
 use Rattle.ele_evidence.proofs.Texts.{one_more, one_row}

@@ -1,3 +1,4 @@
 pub mod Checked
 pub mod EvidenceText
 pub mod Verdict
+pub mod VerdictText

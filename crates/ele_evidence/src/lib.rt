@@ -9,4 +9,4 @@ mod verdict;
 
 pub use checking::{line_of, verify};
 pub use text::{evidence, is_evidence, put_evidence};
-pub use verdict::{Fault, Verdict};
+pub use verdict::{Fault, Verdict, verdict_line};

@@ -2,7 +2,7 @@
 //! examples.
 
 /// What a command does, and an example or nothing, in the order of `Command`.
-pub(crate) static PARAGRAPHS: [(&str, &str); 45] = [
+pub(crate) static PARAGRAPHS: [(&str, &str); 47] = [
     // ahead
     (
         "Lists what 'due' would list at M if only the clock moves. It needs the option\n--explain. NotAhead if M is earlier than now.",
@@ -37,6 +37,11 @@ pub(crate) static PARAGRAPHS: [(&str, &str); 45] = [
     (
         "Makes a file with an empty version 1. Its policy is the default of its\ndirectory. Exists if the name is in use, NoEntry if the directory isn't there.",
         "\nExample:\n    create /notes    ok file 1\n",
+    ),
+    // changes
+    (
+        "Lists what changed between the moments M and U: each name that was made, is\nback, or was linked, renamed, deleted or unlinked, and each file with another\nversion. The columns are the versions and the paths of M and of U; '-' is none.\n'forgotten' is a file of which neither version is held. With P only what is at P\nor below. It needs the option --explain. Future if U is later than now, NotAhead\nif it is earlier than M.",
+        "\nExample:\n    clock 5        ok now 5 1970-01-01T00:00:05Z\n    create /f      ok file 1\n    changes 4 5    ok changes 1\n                   - made file 1 - 1 - /f\n",
     ),
     // due
     (
@@ -75,7 +80,7 @@ pub(crate) static PARAGRAPHS: [(&str, &str); 45] = [
     ),
     // gone
     (
-        "Lists the versions that the stored events removed: when, the file, the version,\nthe path that the file had then, and why it was due. It needs the option\n--explain. It is never refused.",
+        "Lists the versions that the stored events removed: when, the file, the version,\nthe path that the file had then, and why it was due. 'held G M' before the fate\nis the mark that held it longer than its policy. No version is removed while a\nmark covers it that has not ended. It needs the option --explain. It is never\nrefused.",
         "\nExample:\n    gone    ok gone 0 0\n",
     ),
     // history
@@ -163,6 +168,11 @@ pub(crate) static PARAGRAPHS: [(&str, &str); 45] = [
         "Lists the deleted names that 'undelete' can restore. It is never refused.",
         "\nExample:\n    create /f     ok file 1\n    unlink /f     ok done\n    restorable    ok restorable 1\n                  - 0 f file 1\n",
     ),
+    // removals
+    (
+        "Lists the versions that the stored events removed, as 'gone' does, with the last\npath of the file: the one that led to it just before, or the last one that did,\nand until when ('-' if it still led there). It needs the option --explain. It is\nnever refused.",
+        "\nExample:\n    default / one    ok done\n    create /f        ok file 1\n    unlink /f        ok done\n    clean            ok removed 0 1 1\n    removals         ok removals 0 1\n                     - 0 1 1 /f 0 due 0 at once\n",
+    ),
     // save
     (
         "Makes a version of the file at P with the bytes X, without a handle. If P names\nnothing, it makes the file, with an empty version 1 before this one. Drafting if\na handle writes the file, IsDirectory if P is a directory.",
@@ -190,7 +200,7 @@ pub(crate) static PARAGRAPHS: [(&str, &str); 45] = [
     ),
     // trim
     (
-        "Folds the stored events of the history, which frees their memory. Later answers\nstay the same. It is never refused.",
+        "Folds the stored events of the history, which frees their memory. Later answers\nstay the same. K says how many events an audit loses: 'history' and 'answers'\nno longer have them. It is never refused.",
         "\nExample:\n    create /f    ok file 1\n    trim         ok trimmed 1\n",
     ),
     // unlink
@@ -225,7 +235,7 @@ pub(crate) static PARAGRAPHS: [(&str, &str); 45] = [
     ),
     // why
     (
-        "Prints why a version stays, since when it may be removed, or why it was. It\nneeds the option --explain. It is refused as 'read' is.",
+        "Prints why a version stays, since when it may be removed, or why it was. 'held G\nM' before the fate is the mark that held it longer than its policy. It needs the\noption --explain. It is refused as 'read' is.",
         "\nExample:\n    create /f    ok file 1\n    why /f       ok why current\n",
     ),
 ];

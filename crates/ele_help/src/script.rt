@@ -26,7 +26,7 @@ const LETTERS: &str = "
            or - for none
   POL      one, all, safe:SECONDS, safe:SECONDS/FLOOR or landmarks:AGE/WIDTH,..
            in seconds: 604800 is a week
-  [U]      a word that you may leave out; T|H is either of two
+  [U] [P]  words that you may leave out; T|H is either of two
 ";
 
 // The headings, in the order in which they are printed.
@@ -48,16 +48,19 @@ static HEADINGS: [(Topic, &str); 9] = [
 // The column of the answers.
 const WIDTH: usize = 23;
 
-// The letters that stand for a word. A path after another path is Q.
-fn letters(kind: WordKind, after_path: bool) -> &'static str {
+// The letters that stand for a word after another one. A path after a path is Q, a moment after a
+// moment is U, and a path after that may be left out.
+fn letters(kind: WordKind, after_path: bool, after_moment: bool) -> &'static str {
     match kind {
         WordKind::Number => "N",
         WordKind::Handle => "H",
         WordKind::Version => "V",
+        WordKind::Moment if after_moment => "U",
         WordKind::Moment => "M",
         WordKind::End => "[U]",
         WordKind::Name => "G",
         WordKind::Path if after_path => "Q",
+        WordKind::Path if after_moment => "[P]",
         WordKind::Path => "P",
         WordKind::Tagged => "T",
         WordKind::Timed => "A",
@@ -75,11 +78,12 @@ pub(crate) fn put_usage(text: &mut String, row: &Row) -> Result<(), AllocError> 
         text.push_str(" ")?;
         text.push_str(second)?;
     }
-    let mut after_path = false;
+    let (mut after_path, mut after_moment) = (false, false);
     for kind in kinds {
         text.push_str(" ")?;
-        text.push_str(letters(*kind, after_path))?;
+        text.push_str(letters(*kind, after_path, after_moment))?;
         after_path = *kind == WordKind::Path;
+        after_moment = *kind == WordKind::Moment;
     }
     Ok(())
 }

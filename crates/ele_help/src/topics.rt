@@ -26,7 +26,7 @@ fn is_named(row: &Row, first: &str, second: Option<&str>) -> bool
 
 // The place of a command in the tables.
 fn place_of(command: Command) -> usize
-    ensures { result < 45 }
+    ensures { result < 47 }
 {
     command as usize
 }

@@ -37,7 +37,8 @@ const NUMBERS: &str = "Print the number of its line before each answer, and on\n
 const REMARKS: &str = "Skip lines that begin with `#`";
 
 const EXPLAIN: &str = "Answer `why`, `ahead`, `handles`, `gone`,\n\
-    `answers` and `story` too: see `elephant help script`";
+    `removals`, `answers`, `story` and `changes` too: see\n\
+    `elephant help script`";
 
 const BAD_EVENTS: &str = "error: --events takes a number from 1 to 1000000000, \
     without a leading zero\n\nFor more information, try 'elephant run --help'.\n";

@@ -1,8 +1,8 @@
--- Which files keep a store after a call.
-use Rattle.std.proofs.Common.{◌≡◌, ℕ, ◌+◌, ◌-◌, ◌<◌, ◌≤◌, Bool, true, false, ◌&&◌, List, [], ◌∷◌, ◌++◌, length, take, drop, Option, Some, None, is_some, Result, Ok, Err, refl, sym, ap, subst, ◌∙◌, append_assoc, arith, if◌then◌else◌}
-use Rattle.std.specs.Prelude.{IfOk, IfSome, IsTrue, OnErr}
+-- Which files keep a world with its journal after an event and after each call.
+use Rattle.std.proofs.Common.{◌≡◌, ℕ, ◌+◌, ◌-◌, ◌<◌, ◌≤◌, Bool, true, false, ◌&&◌, List, [], ◌∷◌, ◌++◌, length, take, drop, Option, Some, None, is_some, refl, sym, ap, subst, ◌∙◌, append_assoc, arith, if◌then◌else◌}
+use Rattle.std.specs.Prelude.{IfSome}
 use Rattle.std.specs.List.{list_all}
-use Rattle.std.proofs.lemmas.List.{append-nil, drop_all, drop-append-le, take-append-drop, take_at, length-append, length-drop}
+use Rattle.std.proofs.lemmas.List.{append-nil, drop_all, drop-append-le, take-append-drop, take_at, length-append, length-drop, length-take-le}
 use Rattle.std.proofs.lemmas.List.Folds.{list_all-append}
 use Rattle.ele_model.specs.declared.event.Event.{Event}
 use Rattle.ele_model.specs.declared.reply.Reply.{Reply}
@@ -16,8 +16,8 @@ use Rattle.ele_journal.specs.Events.{changes}
 use Rattle.ele_journal.specs.Journal.{first_check, journal, start}
 use Rattle.ele_journal.proofs.Changes.{check_push, text_push}
 use Rattle.ele_journaled.specs.declared.offer.Offer.{Offer}
-use Rattle.ele_journaled.specs.Keeps.{IsSound, Keeps, StaysKept, WillKeep, WillKeepWith, world_after}
-use Rattle.ele_journaled.specs.Store.{Store, answered, appending, compacting, confirmed, confirmed_by, counts, grown, offered, settled, written}
+use Rattle.ele_journaled.specs.JournalState.{JournalState, confirming, counts, extending, grown, idle, answering, replacing, settling}
+use Rattle.ele_journaled.specs.Keeps.{IsSound, Keeps, StaysKept, WillKeep, world_after}
 use Rattle.ele_journaled.proofs.Uncounted.{uncounted_stays}
 
 -- ---- lists
@@ -44,42 +44,39 @@ dropped_by n change event false le = refl
 dropped : (n : ℕ) (change : List Event) (event : Event) (reply : Reply) → n ≤ length change → drop n (grown change event reply) ≡ grown (drop n change) event reply
 dropped n change event reply le = dropped_by n change event (counts event reply) le
 
-keeps_on : (store : Store) (event : Event) (file : List ℕ) → Keeps file store → Keeps file ((answered store event).1)
-keeps_on store event file k = record {
+keeps_on : (w : World) (state : JournalState) (event : Event) (file : List ℕ) → Keeps file w state → Keeps file ((step w event).1) (answering state event ((step w event).0))
+keeps_on w state event file k = record {
   base = k.base;
   changes = k.changes;
   begins = k.begins;
   text = k.text;
   check = k.check;
-  world = grown_world (world_after k.base k.changes) store.world store.change event k.world;
+  world = grown_world (world_after k.base k.changes) w state.change event k.world;
 }
 
-confirmed_on : (store : Store) (event : Event) (offer : Offer) (file : List ℕ) → offer.count ≤ length store.change → Keeps file (confirmed store offer) → Keeps file (confirmed ((answered store event).1) offer)
-confirmed_on store event offer file le k = record {
+confirmed_on : (w : World) (state : JournalState) (event : Event) (offer : Offer) (file : List ℕ) → offer.count ≤ length state.change → Keeps file w (confirming state (Some offer))
+    → Keeps file ((step w event).1) (confirming (answering state event ((step w event).0)) (Some offer))
+confirmed_on w state event offer file le k = record {
   base = k.base;
   changes = k.changes;
   begins = k.begins;
   text = k.text;
   check = k.check;
-  world = grown_world (world_after k.base k.changes) store.world (drop offer.count store.change) event k.world
-      ∙ ap (run_of (world_after k.base k.changes)) (sym (dropped offer.count store.change event ((step store.world event).0) le));
+  world = grown_world (world_after k.base k.changes) w (drop offer.count state.change) event k.world
+      ∙ ap (run_of (world_after k.base k.changes)) (sym (dropped offer.count state.change event ((step w event).0) le));
 }
 
 pub some_is : {X : Type 0} (P : X → Type 0) (o : Option X) (x : X) → o ≡ Some x → IfSome o P → P x
 some_is P o x is all = subst (λ (o : Option _). IfSome o P) is all
 
-stays : (store : Store) (event : Event) → IsSound store.change store.offer → StaysKept store ((answered store event).1)
-stays store event sound = record {
-  kept = keeps_on store event;
-  offered = λ file will offer is. confirmed_on store event offer file (some_is (λ (offer : Offer). offer.count ≤ length store.change) store.offer offer is sound.within) (will offer is);
+pub stays : (w : World) (state : JournalState) (event : Event) → IsSound state.change state.offer → StaysKept w state ((step w event).1) (answering state event ((step w event).0))
+stays w state event sound = record {
+  kept = keeps_on w state event;
+  offered = λ file will offer is. confirmed_on w state event offer file (some_is (λ (offer : Offer). offer.count ≤ length state.change) state.offer offer is sound.within) (will offer is);
 }
 
-same : (store : Store) → StaysKept store store
-same store = record { kept = λ file k. k; offered = λ file w. w }
-
-pub stays_kept : {E : Type 0} (result : Result Reply E) (before after : Store) (event : Event) → IsSound before.change before.offer → IfOk result (λ reply. ◌≡◌ {A = Reply × Store} (reply, after) (answered before event)) → OnErr result (after ≡ before) → StaysKept before after
-stays_kept (Ok reply) before after event sound ok err = subst (StaysKept before) (sym (ap (λ (x : Reply × Store). x.1) ok)) (stays before event sound)
-stays_kept (Err error) before after event sound ok err = subst (StaysKept before) (sym err) (same before)
+pub same : (w : World) (state : JournalState) → StaysKept w state w state
+same w state = record { kept = λ file k. k; offered = λ file will. will }
 
 -- ---- bytes
 
@@ -87,11 +84,31 @@ still_within : (change : List Event) (event : Event) (offer : Option Offer) → 
 still_within change event None le = tt
 still_within change event (Some offer) le = omega (arith, le, length-append change (event ∷ []))
 
+-- no bytes have an event that was just added
+last_within_by : (change : List Event) (event : Event) (offer : Option Offer) → IfSome offer (λ offer. offer.count ≤ length change) → IfSome offer (λ offer. offer.count < length (change ++ event ∷ []))
+last_within_by change event None le = tt
+last_within_by change event (Some offer) le = omega (arith, le, length-append change (event ∷ []))
+
+pub last_within : (change : List Event) (event : Event) (offer : Option Offer) → IsSound change offer → IfSome offer (λ offer. offer.count < length (change ++ event ∷ []))
+last_within change event offer sound = last_within_by change event offer sound.within
+
 pub sound_grown : (change : List Event) (offer : Option Offer) (event : Event) → IsSound change offer → changes event ≡ true → IsSound (change ++ event ∷ []) offer
 sound_grown change offer event sound is = record {
   changing = list_all-append changes change (event ∷ []) ∙ rw (sound.changing, is) refl;
   within = still_within change event offer sound.within;
 }
+
+both_left : (a b : Bool) → (a && b) ≡ true → a ≡ true
+both_left true b e = refl
+both_left false b e = absurd cc
+
+sound_by : (change : List Event) (offer : Option Offer) (event : Event) (reply : Reply) (b : Bool) → counts event reply ≡ b → IsSound change offer → IsSound (if b then change ++ event ∷ [] else change) offer
+sound_by change offer event reply true is sound = sound_grown change offer event sound (both_left (changes event) _ is)
+sound_by change offer event reply false is sound = sound
+
+-- an event that counts is no question
+pub still_sound : (change : List Event) (offer : Option Offer) (event : Event) (reply : Reply) → IsSound change offer → IsSound (grown change event reply) offer
+still_sound change offer event reply sound = sound_by change offer event reply (counts event reply) refl sound
 
 pub sound_offered : (change : List Event) (offer : Option Offer) (given : Offer) → IsSound change offer → given.count ≡ length change → IsSound change (Some given)
 sound_offered change offer given sound is = record { changing = sound.changing; within = omega (arith, is) }
@@ -103,6 +120,25 @@ both_right false b e = absurd cc
 all_dropped : (n : ℕ) (change : List Event) → list_all changes change ≡ true → list_all changes (drop n change) ≡ true
 all_dropped n change all = both_right (list_all changes (take n change)) (list_all changes (drop n change)) (sym (list_all-append changes (take n change) (drop n change)) ∙ ap (list_all changes) (take-append-drop n change) ∙ all)
 
+all_taken : (n : ℕ) (change : List Event) → list_all changes change ≡ true → list_all changes (take n change) ≡ true
+all_taken n change all = both_left (list_all changes (take n change)) (list_all changes (drop n change)) (sym (list_all-append changes (take n change) (drop n change)) ∙ ap (list_all changes) (take-append-drop n change) ∙ all)
+
+within_back : (n m : ℕ) (offer : Option Offer) → m + 1 ≡ n → IfSome offer (λ offer. offer.count < n) → IfSome offer (λ offer. offer.count ≤ m)
+within_back n m None is lt = tt
+within_back n m (Some offer) is lt = omega (arith, is, lt)
+
+within_none : (m : ℕ) (offer : Option Offer) → IfSome offer (λ offer. offer.count < 0) → IfSome offer (λ offer. offer.count ≤ m)
+within_none m None lt = tt
+within_none m (Some offer) lt = absurd (omega (arith, lt))
+
+-- the last event is taken back, which no bytes have
+pub sound_back : (change : List Event) (offer : Option Offer) → IsSound change offer → IfSome offer (λ offer. offer.count < length change) → IsSound (take (length change - 1) change) offer
+sound_back [] offer sound lt = record { changing = refl; within = within_none 0 offer lt }
+sound_back (event ∷ events) offer sound lt = record {
+  changing = all_taken (length (event ∷ events) - 1) (event ∷ events) sound.changing;
+  within = within_back (length (event ∷ events)) (length (take (length (event ∷ events) - 1) (event ∷ events))) offer (omega (arith, length-take-le (length (event ∷ events) - 1) (event ∷ events) (omega arith))) lt;
+}
+
 pub sound_written : (n : ℕ) (change : List Event) (offer : Option Offer) → IsSound change offer → IsSound (drop n change) None
 sound_written n change offer sound = record { changing = all_dropped n change sound.changing; within = tt }
 
@@ -110,81 +146,62 @@ world_push : (base : World) (changes : List (List Event)) (change : List Event) 
 world_push base [] change = refl
 world_push base (first ∷ changes) change = world_push (run_of base first) changes change
 
-appended : (before : Store) (file : List ℕ) → Keeps file before → Keeps (file ++ change_text before.check before.change) (confirmed (appending before) (record { check = after_change before.check before.change; count = length before.change }))
-appended before file k =
+appended : (file : List ℕ) (w : World) (state : JournalState) → Keeps file w state
+    → Keeps (file ++ change_text state.check state.change) w (confirming (extending state) (Some (record { check = after_change state.check state.change; count = length state.change })))
+appended file w state k =
     let first = first_check k.base in
     record {
       base = k.base;
-      changes = k.changes ++ before.change ∷ [];
+      changes = k.changes ++ state.change ∷ [];
       begins = k.begins;
-      text = ap (λ (t : List ℕ). t ++ change_text before.check before.change) k.text
-          ∙ ap (λ (c : List ℕ). journal k.base k.changes ++ change_text c before.change) k.check
-          ∙ append_assoc (start k.base) (changes_text first k.changes) (change_text (last_check first k.changes) before.change)
-          ∙ ap (λ (t : List ℕ). start k.base ++ t) (sym (text_push first k.changes before.change));
-      check = ap (λ (c : List ℕ). after_change c before.change) k.check ∙ sym (check_push first k.changes before.change);
-      world = k.world ∙ sym (world_push k.base k.changes before.change) ∙ ap (run_of (world_after k.base (k.changes ++ before.change ∷ []))) (sym (none_left before.change));
+      text = ap (λ (t : List ℕ). t ++ change_text state.check state.change) k.text
+          ∙ ap (λ (c : List ℕ). journal k.base k.changes ++ change_text c state.change) k.check
+          ∙ append_assoc (start k.base) (changes_text first k.changes) (change_text (last_check first k.changes) state.change)
+          ∙ ap (λ (t : List ℕ). start k.base ++ t) (sym (text_push first k.changes state.change));
+      check = ap (λ (c : List ℕ). after_change c state.change) k.check ∙ sym (check_push first k.changes state.change);
+      world = k.world ∙ sym (world_push k.base k.changes state.change) ∙ ap (run_of (world_after k.base (k.changes ++ state.change ∷ []))) (sym (none_left state.change));
     }
 
 some_once : {X : Type 0} (x y : X) → Some x ≡ Some y → x ≡ y
 some_once x y e = cc
 
-pub will_append : (before : Store) → WillKeepWith before (change_text before.check before.change) (appending before)
-will_append before file k offer is =
-    let given : Offer = record { check = after_change before.check before.change; count = length before.change } in
-    subst (λ (o : Offer). Keeps (file ++ change_text before.check before.change) (confirmed (appending before) o)) (some_once given offer is) (appended before file k)
+pub will_append : (file : List ℕ) (w : World) (state : JournalState) → Keeps file w state → WillKeep (file ++ change_text state.check state.change) w (extending state)
+will_append file w state k offer is =
+    let given : Offer = record { check = after_change state.check state.change; count = length state.change } in
+    subst (λ (o : Offer). Keeps (file ++ change_text state.check state.change) w (confirming (extending state) (Some o))) (some_once given offer is) (appended file w state k)
 
-compacted : (before : Store) → IsStart before.world → Keeps (start before.world) (confirmed (compacting before) (record { check = first_check before.world; count = length before.change }))
-compacted before begins = record {
-  base = before.world;
+compacted : (w : World) (state : JournalState) → IsStart w → Keeps (start w) w (confirming (replacing w state) (Some (record { check = first_check w; count = length state.change })))
+compacted w state begins = record {
+  base = w;
   changes = [];
   begins = begins;
-  text = sym (append-nil (start before.world));
+  text = sym (append-nil (start w));
   check = refl;
-  world = ap (run_of before.world) (sym (none_left before.change));
+  world = ap (run_of w) (sym (none_left state.change));
 }
 
-pub will_compact : (before : Store) → IsStart before.world → WillKeep (start before.world) (compacting before)
-will_compact before begins offer is =
-    let given : Offer = record { check = first_check before.world; count = length before.change } in
-    subst (λ (o : Offer). Keeps (start before.world) (confirmed (compacting before) o)) (some_once given offer is) (compacted before begins)
+pub will_compact : (w : World) (state : JournalState) → IsStart w → WillKeep (start w) w (replacing w state)
+will_compact w state begins offer is =
+    let given : Offer = record { check = first_check w; count = length state.change } in
+    subst (λ (o : Offer). Keeps (start w) w (confirming (replacing w state) (Some o))) (some_once given offer is) (compacted w state begins)
 
--- ---- the same, as the fields of a store have it
+-- what was given doesn't matter for what a file keeps
+pub keeps_offer : (file : List ℕ) (w : World) (state : JournalState) (o : Option Offer) → Keeps file w state → Keeps file w (record state { offer = o })
+keeps_offer file w state o k = record { base = k.base; changes = k.changes; begins = k.begins; text = k.text; check = k.check; world = k.world }
 
-offer_is : (c d : List ℕ) (m n : ℕ) → c ≡ d → m ≡ n → ◌≡◌ {A = Offer} (record { check = c; count = m }) (record { check = d; count = n })
-offer_is c d m n e f = ap (λ (c : List ℕ). let o : Offer = record { check = c; count = m } in o) e ∙ ap (λ (n : ℕ). let o : Offer = record { check = d; count = n } in o) f
-
-pub will_append_as : (v before : Store) (bytes check : List ℕ) (count : ℕ) → v ≡ before → bytes ≡ change_text v.check v.change → check ≡ after_change v.check v.change → count ≡ length v.change → WillKeepWith before bytes (record v { offer = Some (record { check = check; count = count }) })
-will_append_as v before bytes check count is bytes_is check_is count_is =
-    let given : Offer = record { check = check; count = count } in
-    let first : WillKeepWith v bytes (appending v) = subst (λ (b : List ℕ). WillKeepWith v b (appending v)) (sym bytes_is) (will_append v) in
-    let second : WillKeepWith v bytes (record v { offer = Some given }) = subst (λ (o : Offer). WillKeepWith v bytes (record v { offer = Some o })) (sym (offer_is check (after_change v.check v.change) count (length v.change) check_is count_is)) first in
-    subst (λ (s : Store). WillKeepWith s bytes (record v { offer = Some given })) is second
-
-pub will_compact_as : (v : Store) (bytes check : List ℕ) (count : ℕ) → IsStart v.world → bytes ≡ start v.world → check ≡ first_check v.world → count ≡ length v.change → WillKeep bytes (record v { offer = Some (record { check = check; count = count }) })
-will_compact_as v bytes check count begins bytes_is check_is count_is =
-    let first : WillKeep bytes (compacting v) = subst (λ (b : List ℕ). WillKeep b (compacting v)) (sym bytes_is) (will_compact v begins) in
-    subst (λ (o : Offer). WillKeep bytes (record v { offer = Some o })) (sym (offer_is check (first_check v.world) count (length v.change) check_is count_is)) first
-
--- what was given doesn't matter for what keeps the store
-keeps_so : (v : Store) (o : Option Offer) (file : List ℕ) → Keeps file v → Keeps file (record v { offer = o })
-keeps_so v o file k = record { base = k.base; changes = k.changes; begins = k.begins; text = k.text; check = k.check; world = k.world }
-
-pub keeps_as : (v before : Store) (o : Option Offer) (file : List ℕ) → v ≡ before → Keeps file before → Keeps file (record v { offer = o })
-keeps_as v before o file is k = keeps_so v o file (subst (Keeps file) (sym is) k)
-
-pub keeps_begun : (world : World) (check : List ℕ) → IsStart world → check ≡ first_check world → Keeps (start world) (settled world check)
-keeps_begun world check begins is = record {
-  base = world;
+pub keeps_begun : (w : World) → IsStart w → Keeps (start w) w (idle (first_check w))
+keeps_begun w begins = record {
+  base = w;
   changes = [];
   begins = begins;
-  text = sym (append-nil (start world));
-  check = is;
+  text = sym (append-nil (start w));
+  check = refl;
   world = refl;
 }
 
-keeps_by : (file : List ℕ) (store : Store) (o : Option Offer) → store.offer ≡ o → is_some o ≡ true → WillKeep file store → Keeps file (confirmed_by store o)
-keeps_by file store None is some will = absurd cc
-keeps_by file store (Some offer) is some will = will offer is
+keeps_by : (file : List ℕ) (w : World) (state : JournalState) (o : Option Offer) → state.offer ≡ o → is_some o ≡ true → WillKeep file w state → Keeps file w (confirming state o)
+keeps_by file w state None is some will = absurd cc
+keeps_by file w state (Some offer) is some will = will offer is
 
-pub keeps_written : (file : List ℕ) (before after : Store) → is_some before.offer ≡ true → after ≡ written before → WillKeep file before → Keeps file after
-keeps_written file before after some is will = subst (Keeps file) (sym is) (keeps_by file before before.offer refl some will)
+pub keeps_written : (file : List ℕ) (w : World) (state : JournalState) → is_some state.offer ≡ true → WillKeep file w state → Keeps file w (settling state)
+keeps_written file w state some will = keeps_by file w state state.offer refl some will

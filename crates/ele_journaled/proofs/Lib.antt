@@ -1,10 +1,8 @@
 -- an event that doesn't count changes nothing
 mod Uncounted
--- which files keep a store after a call
+-- which files keep a world with its journal
 pub mod Kept
--- events and changes that run
-pub mod Runs
--- what bytes are opened as
-pub mod Openings
+-- the law of all of it
+pub mod FilesStay
 -- a store by hand
 pub mod Examples

@@ -10,7 +10,7 @@ use Rattle.std.proofs.Common.{◌&&◌, ◌⊎◌, inl, inr}
 use Rattle.ele_model.specs.declared.event.Event.TheVariants as events
 use Rattle.ele_model.proofs.PlanOutcomes.{InAll, asking_stays, outcome_of}
 use Rattle.ele_journal.specs.Events.{changes}
-use Rattle.ele_journaled.specs.Store.{counts, is_unchanged}
+use Rattle.ele_journaled.specs.JournalState.{counts, is_unchanged}
 
 -- what makes changes is answered by a reply that says so
 abbrev IsSaid : Reply → List Change → Type 0

@@ -1,4 +1,4 @@
-pub mod Store
+pub mod JournalState
 pub mod Keeps
-pub mod Opened
+pub mod FilesStay
 pub mod Example

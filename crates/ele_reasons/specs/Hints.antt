@@ -34,6 +34,8 @@ audit_hint word =
     else if bytes_eq word (codes "handles") then Explaining
     else if bytes_eq word (codes "answers") then Explaining
     else if bytes_eq word (codes "story") then Explaining
+    else if bytes_eq word (codes "removals") then Explaining
+    else if bytes_eq word (codes "changes") then Explaining
     else shell_hint word
 
 -- of a word that begins no command of the run

@@ -33,11 +33,20 @@ behind_text (MomentWord ∷ EndWord ∷ []) = codes " and one moment or two"
 behind_text (last ∷ []) = codes " and " ++ kind_text last
 behind_text (kind ∷ kinds) = codes ", " ++ kind_text kind ++ behind_text kinds
 
+-- the kinds in a list
+abbrev pub list_text : List WordKind → List ℕ
+list_text [] = codes "no words"
+list_text (PathWord ∷ PathWord ∷ []) = codes "two paths"
+list_text (kind ∷ kinds) = kind_text kind ++ behind_text kinds
+
+-- two moments and a path: the path may be left out
+abbrev pub is_span : List WordKind → Bool
+is_span (MomentWord ∷ MomentWord ∷ PathWord ∷ []) = true
+is_span kinds = false
+
 -- the words that a command takes, by their kinds
 abbrev pub takes_text : List WordKind → List ℕ
-takes_text [] = codes "no words"
-takes_text (PathWord ∷ PathWord ∷ []) = codes "two paths"
-takes_text (kind ∷ kinds) = kind_text kind ++ behind_text kinds
+takes_text kinds = if is_span kinds then codes "two moments, and a path or none" else list_text kinds
 
 -- what to add if a command that begins with a path has too many words
 abbrev pub count_text : List WordKind → Bool → List ℕ

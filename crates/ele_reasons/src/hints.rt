@@ -58,6 +58,10 @@ fn audit_hint(word: &[u8]) -> Hint
         Hint::Explaining
     } else if word == b"story".as_slice() {
         Hint::Explaining
+    } else if word == b"removals".as_slice() {
+        Hint::Explaining
+    } else if word == b"changes".as_slice() {
+        Hint::Explaining
     } else {
         shell_hint(word)
     }

@@ -3,7 +3,7 @@
 ghost use Rattle.std.specs.Prelude.{◌≡◌, ◌++◌, codes};
 ghost use Rattle.ele_commands.specs.Command.{kinds_of};
 ghost use Rattle.ele_output.specs.Prints.{Prints};
-ghost use Rattle.ele_reasons.specs.ReasonText.{after_text, behind_text, byte_text, cause_text, count_text, digit_text, first_text, hexadecimal, hint_text, is_moment, kind_text, other_text, path_text, place_text, reason_text, syntax_text, tag_text, takes_text, word_text};
+ghost use Rattle.ele_reasons.specs.ReasonText.{after_text, behind_text, byte_text, cause_text, count_text, digit_text, first_text, hexadecimal, hint_text, is_moment, is_span, kind_text, list_text, other_text, path_text, place_text, reason_text, syntax_text, tag_text, takes_text, word_text};
 
 use ele_commands::{Command, WordKind};
 use ele_output::{Printer, put_with_number};
@@ -89,9 +89,27 @@ pub enum Reason {
     },
 }
 
-// Prints the list of the words that a command takes, by their kinds.
+// Prints the words that a command takes, by their kinds.
 fn put_takes<W: Write>(kinds: &[WordKind], printer: &mut Printer<'_, W>)
     ensures { Prints W.contents printer.old printer.new (takes_text kinds.now) }
+{
+    if is_span(kinds) {
+        printer.put(b"two moments, and a path or none");
+    } else {
+        put_list(kinds, printer);
+    }
+}
+
+// Whether these are two moments and a path, which may be left out.
+fn is_span(kinds: &[WordKind]) -> bool
+    ensures { result ≡ is_span kinds.now }
+{
+    matches!(kinds, [WordKind::Moment, WordKind::Moment, WordKind::Path])
+}
+
+// Prints the kinds in a list.
+fn put_list<W: Write>(kinds: &[WordKind], printer: &mut Printer<'_, W>)
+    ensures { Prints W.contents printer.old printer.new (list_text kinds.now) }
 {
     match kinds {
         [] => printer.put(b"no words"),

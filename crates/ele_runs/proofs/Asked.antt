@@ -1,5 +1,6 @@
 -- A line's command, and its answer.
 use Rattle.ele_runs.proofs.Basics.{false, ◌≡◌, ℕ, List, length, ◌⊎◌, inl, inr, refl}
+use Rattle.std.specs.Prelude.{Some, None}
 use Rattle.ele_runs.proofs.Words.{HasRoom, HistoryFull, IsForMemory, IsFull, MayMean, MayPass, Past, Recorded, Said, recorded, trimmed}
 use Rattle.ele_printer.specs.declared.fault.LineFault.{LineFault}
 use Rattle.ele_script.specs.FirstFault.{IsFirstFault}
@@ -36,6 +37,8 @@ pub record Faulty (before : Past) (line : List ℕ) (said : Said) (after : Past)
 -- a plain run has no questions
 pub never_asked : (line : List ℕ) (asked : Question) → Asks false line (asks.Question asked) → ⊥
 never_asked line (question.Why tagged) is = absurd (let never = is.allowed in cc)
+never_asked line (question.Changes first second None) is = absurd (let never = is.allowed in cc)
+never_asked line (question.Changes first second (Some path)) is = absurd (let never = is.allowed in cc)
 never_asked line asked is = absurd (let never = is.allowed in cc)
 
 -- an answer that is no stop for memory is one of these

@@ -16,8 +16,8 @@ use Rattle.ele_printer.specs.declared.fault.LineFault.TheVariants as fault
 use Rattle.ele_script.specs.declared.reading.Line.TheVariants as asks
 use Rattle.ele_script.specs.declared.reading.Question.{Question}
 use Rattle.ele_runs.specs.Block.{cut_count}
-use Rattle.ele_runs.specs.Kept.{Kept, Plain, Recorded, Stays, has_past, last_reply}
-use Rattle.ele_runs.specs.Said.{Explains, HearsKept, Records, Trims, as_history, as_question, as_trim, has_no_reply, said_front, to_answer, to_read, to_tell, to_trim}
+use Rattle.ele_runs.specs.Kept.{Kept, Plain, Recorded, Journaled, Stays, has_past, last_reply}
+use Rattle.ele_runs.specs.Said.{Explains, HearsKept, IsFault, NeedsPast, Records, Trims, as_history, as_question, as_trim, has_no_reply, said_front, to_answer, to_read, to_tell, to_trim}
 use Rattle.ele_run_options.specs.declared.options.RunOptions.{RunOptions}
 use Rattle.ele_runs.specs.RunState.{counted}
 use Rattle.ele_runs.proofs.Notes.{noted_good}
@@ -46,6 +46,19 @@ last_replied before after event done =
 pub stays : (kept : Kept) → Stays kept kept
 stays (Plain w last) = refl
 stays (Recorded past) = refl
+stays (Journaled kept journal) = (stays kept, refl)
+
+-- a line's first fault is its fault
+first_fault : {explains : Bool} (kept : Kept) (line : List ℕ) (why : LineFault) → IsFirstFault explains line why → IsFault explains kept line why
+first_fault (Plain w last) line why first = inl first
+first_fault (Recorded past) line why first = first
+first_fault (Journaled kept journal) line why first = first_fault kept line why first
+
+-- and so is a command that needs a history, without one
+fault_of_past : {explains : Bool} (kept : Kept) (line : List ℕ) (why : LineFault) → why ≡ fault.Syntax → has_past kept ≡ false → NeedsPast explains line → IsFault explains kept line why
+fault_of_past (Plain w last) line why is none needs = inr (is, needs)
+fault_of_past (Recorded past) line why is none needs = absurd (let never = none in cc)
+fault_of_past (Journaled kept journal) line why is none needs = fault_of_past kept line why is none needs
 
 -- the answer to a line, by its command
 pub hears_event : {explains : Bool} (before after : Kept) (line : List ℕ) (event : Event) (said : Said) → Asks explains line (asks.Event event) → Records before event said after → MayMean explains before line said after
@@ -58,22 +71,19 @@ pub hears_trim : {explains : Bool} (before after : Kept) (line : List ℕ) (said
 hears_trim before after line (Trimmed count) asked trims = (asked, trims)
 hears_trim before after line (Stopped NoMemory) asked trims = (to_trim asked trims.1, trims.2)
 hears_trim before after line (Stopped HistoryFull) asked trims = absurd (let never = trims.0 in cc)
-hears_trim (Plain w last) after line (Bad why) asked trims = (inr (trims.0, as_trim asked), trims.2)
-hears_trim (Recorded past) after line (Bad why) asked trims = absurd (let never = trims.1 in cc)
+hears_trim before after line (Bad why) asked trims = (fault_of_past before line why trims.0 trims.1 (as_trim asked), trims.2)
 hears_trim before after line said asked trims = absurd trims
 
 pub hears_history : {explains : Bool} (kept : Kept) (line : List ℕ) → Asks explains line asks.History → has_past kept ≡ true → MayMean explains kept line History kept
 hears_history kept line asked has = (asked, has, stays kept)
 
 pub hears_no_history : {explains : Bool} (kept : Kept) (line : List ℕ) → Asks explains line asks.History → has_past kept ≡ false → MayMean explains kept line (Bad fault.Syntax) kept
-hears_no_history (Plain w last) line asked none = (inr (refl, as_history asked), refl)
-hears_no_history (Recorded past) line asked none = absurd (let never = none in cc)
+hears_no_history kept line asked none = (fault_of_past kept line fault.Syntax refl none (as_history asked), stays kept)
 
 pub hears_question : {explains : Bool} (kept : Kept) (line : List ℕ) (asked : Question) (said : Said) → Asks explains line (asks.Question asked) → Explains kept asked said → MayMean explains kept line said kept
 hears_question kept line asked (Stopped NoMemory) is says = (to_tell asked is says.1, stays kept)
 hears_question kept line asked (Stopped HistoryFull) is says = absurd (let never = says.0 in cc)
-hears_question (Plain w last) line asked (Bad why) is says = (inr (says.0, as_question asked is says.2), refl)
-hears_question (Recorded past) line asked (Bad why) is says = absurd (let never = says.1 in cc)
+hears_question kept line asked (Bad why) is says = (fault_of_past kept line why says.0 says.1 (as_question asked is says.2), stays kept)
 hears_question kept line asked Nothing is says = absurd says
 hears_question kept line asked Replied is says = absurd says
 hears_question kept line asked (Passed end) is says = absurd says
@@ -84,8 +94,7 @@ hears_question kept line asked said is says = (asked, is, says, stays kept)
 -- a line that wasn't read
 pub hears_fault : {explains : Bool} (kept : Kept) (line : List ℕ) (why : LineFault) → (why ≡ fault.NoMemory) ⊎ IsFirstFault explains line why → why ≢ fault.NoMemory → MayMean explains kept line (Bad why) kept
 hears_fault kept line why (inl memory) other = absurd (other memory)
-hears_fault (Plain w last) line why (inr first) other = (inl first, refl)
-hears_fault (Recorded past) line why (inr first) other = (first, refl)
+hears_fault kept line why (inr first) other = (first_fault kept line why first, stays kept)
 
 pub hears_memory : {explains : Bool} (kept : Kept) (line : List ℕ) → TakesMemory explains (words_of line) → MayMean explains kept line (Stopped NoMemory) kept
 hears_memory kept line takes = (to_read takes, stays kept)

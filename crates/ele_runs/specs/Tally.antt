@@ -32,6 +32,7 @@ outcome_for last (said.Passed (pass.Stopped stop removed)) = Stopped
 outcome_for last (said.Why (Err why)) = Refused
 outcome_for last (said.Ahead (Err why)) = Refused
 outcome_for last (said.Story (Err why)) = Refused
+outcome_for last (said.Changes (Err why)) = Refused
 outcome_for last told = Well
 
 abbrev pub is_well : Outcome → Bool

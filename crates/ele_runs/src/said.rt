@@ -3,11 +3,11 @@
 ghost use Rattle.std.specs.Prelude.{◌≡◌, Err, IfSome, List, None, Option, ℕ};
 ghost use Rattle.std.specs.Option.{option_copied, option_map};
 ghost use Rattle.ele_history.specs.Past.{world_of};
-ghost use Rattle.ele_model.specs.Why.{IsWhy};
+ghost use Rattle.ele_model.specs.Why.{IsWhy, MeansFate};
 ghost use Rattle.ele_model.specs.declared.refusal.Refusal.TheVariants.{Forgotten};
 ghost use Rattle.ele_output.specs.Prints.{Prints};
 ghost use Rattle.ele_runs.specs.Kept.{Plain, Recorded, last_reply};
-ghost use Rattle.ele_runs.specs.Said.{Explains, HearsKept, IsLastText, IsText, MayMean, Records, SaysAhead, has_no_reply, said_front};
+ghost use Rattle.ele_runs.specs.Said.{Explains, HearsKept, IsLastText, IsText, MayMean, Records, SaysAhead, SaysChanges, SaysFate, has_no_reply, said_front};
 ghost use Rattle.ele_runs.specs.Tally.{outcome_for};
 ghost use Rattle.ele_runs.specs.Written.{AsksEventIn, IsEventText, event_said, number_front};
 ghost use Rattle.ele_script.specs.declared.reading.Question.TheVariants as question;
@@ -15,10 +15,14 @@ ghost use Rattle.ele_script.specs.declared.reading.Question.TheVariants as quest
 use crate::keep::Keep;
 use crate::tally::Outcome;
 use ele_audit::{
-    OpenHandle, Removed, Story, open_handles, put_answers, put_gone, put_handles, put_story,
-    put_why_gone, removed, removed_version, story, story_alone,
+    OpenHandle, Removed, Story, hold_at, open_handles, put_answers, put_gone, put_handles,
+    put_story, put_why_gone, put_why_held, removed, removed_version, story, story_alone,
 };
+use ele_change_paths::{Difference, changes_by_path};
+use ele_change_text::put_changes;
+use ele_changes::Span;
 use ele_history::History;
+use ele_holds::Hold;
 use ele_model::{
     Entry, Event, Explain, Fate, FromFlat, KeyList, Moment, PassEnd, Refusal, Reply, Stop,
 };
@@ -28,6 +32,7 @@ use ele_printer::{
     put_ahead, put_answer, put_fault, put_history, put_in_front, put_pass, put_stop, put_trimmed,
     put_why,
 };
+use ele_removals::{Removal, put_removals, removals};
 use ele_run_options::RunOptions;
 use ele_script::{Line, LineFault, Question, read_line_in};
 use std::alloc::Global;
@@ -52,6 +57,9 @@ pub enum Said {
     Trimmed(u64),
     /// What becomes of the version that it asks about, or why it means none.
     Why(Result<Fate, Refusal>),
+    /// What becomes of the version that it asks about, and the mark that held it after its policy had
+    /// let it go.
+    WhyHeld(Fate, Hold),
     /// What became of the removed version that it asks about.
     WhyRemoved(Removed),
     /// What will be due at the moment that it asks about.
@@ -64,6 +72,10 @@ pub enum Said {
     Answers,
     /// The story of the file that it asks about, or why its path never named one.
     Story(Result<Story, Refusal>),
+    /// The versions that the history removed, with their last names.
+    Removals(Vec<Removal>),
+    /// What changed between the moments that it asks about, or why these are refused.
+    Changes(Result<Difference, Refusal>),
 }
 
 /// Answers a line as it is kept, over whatever keeps the world.
@@ -190,7 +202,7 @@ pub(crate) fn put_number_front<W: Write>(
 /// Answers a question about a history.
 // Not inlined, so that only questions take the stack of their answers.
 #[inline(never)]
-#[tactic(auto, using(crate::proofs::Questions::ahead_recorded))]
+#[tactic(auto, using(crate::proofs::Questions::ahead_recorded, crate::proofs::Questions::changes_recorded))]
 pub(crate) fn explain<C: Explain + FromFlat>(
     alloc: Global,
     question: &Question,
@@ -211,23 +223,34 @@ pub(crate) fn explain<C: Explain + FromFlat>(
         },
         Question::Answers => Said::Answers,
         Question::Story(path) => explain_story(alloc, path, history),
+        Question::Removals => match removals(alloc, history) {
+            Ok(rows) => Said::Removals(rows),
+            Err(_) => Said::Stopped(Stop::NoMemory),
+        },
+        Question::Changes(first, second, within) => {
+            explain_changes(*first, *second, within, history.core())
+        }
     }
 }
 
 /// Answers a question about a core alone.
-#[tactic(auto, using(crate::proofs::Questions::ahead_alone))]
+#[tactic(auto, using(crate::proofs::Questions::ahead_alone, crate::proofs::Questions::changes_alone))]
 pub fn explain_alone<C: Explain>(question: &Question, core: &C) -> Said
     ensures { Explains (Plain (C.world core.now) None) question.now result }
 {
     match question {
-        Question::Why(tagged) => Said::Why(core.fate_at(tagged)),
+        Question::Why(tagged) => explain_why_alone(tagged, core),
         Question::Ahead(moment) => explain_ahead(*moment, core),
         Question::Story(path) => explain_story_alone(path, core),
-        Question::Gone | Question::Handles | Question::Answers => Said::Bad(LineFault::Syntax),
+        Question::Changes(first, second, within) => explain_changes(*first, *second, within, core),
+        Question::Gone | Question::Handles | Question::Answers | Question::Removals => {
+            Said::Bad(LineFault::Syntax)
+        }
     }
 }
 
 // Returns why a version is held, or why it was removed.
+#[tactic(auto, using(crate::proofs::Questions::fate_recorded))]
 fn explain_why<C: Explain + FromFlat>(
     alloc: Global,
     tagged: &TaggedPath,
@@ -237,12 +260,37 @@ fn explain_why<C: Explain + FromFlat>(
 {
     let told = history.core().fate_at(tagged);
     match &told {
+        Ok(fate) => explain_fate(fate, tagged, history.core()),
         Err(Refusal::Forgotten(_)) => explain_forgotten(alloc, told, tagged, history),
-        _ => Said::Why(told),
+        Err(_) => Said::Why(told),
+    }
+}
+
+// Returns why a core alone holds a version.
+#[tactic(auto, using(crate::proofs::Questions::fate_alone))]
+fn explain_why_alone<C: Explain>(tagged: &TaggedPath, core: &C) -> Said
+    ensures { Explains (Plain (C.world core.now) None) (question.Why tagged.now) result }
+{
+    match core.fate_at(tagged) {
+        Ok(fate) => explain_fate(&fate, tagged, core),
+        Err(refusal) => Said::Why(Err(refusal)),
+    }
+}
+
+// Returns the fate of a version, with the mark that held it after its policy had let it go.
+fn explain_fate<C: Explain>(fate: &Fate, tagged: &TaggedPath, core: &C) -> Said
+    requires { MeansFate (C.world core.now) tagged.now fate.now }
+    ensures { SaysFate (C.world core.now) tagged.now result }
+{
+    match hold_at(tagged, fate, core) {
+        Ok(Some(hold)) => Said::WhyHeld(*fate, hold),
+        Ok(None) => Said::Why(Ok(*fate)),
+        Err(_) => Said::Stopped(Stop::NoMemory),
     }
 }
 
 // Returns why a version was removed, or that no stored entry removed it.
+#[tactic(auto, using(crate::proofs::Questions::removal_stopped))]
 fn explain_forgotten<C: Explain + FromFlat>(
     alloc: Global,
     told: Result<Fate, Refusal>,
@@ -280,6 +328,21 @@ fn explain_story_alone<C: Explain>(path: &Path, core: &C) -> Said
     }
 }
 
+// Returns what changed between the moments, at the path if there is one.
+fn explain_changes<C: Explain>(
+    first: Moment,
+    second: Moment,
+    within: &Option<Path>,
+    core: &C,
+) -> Said
+    ensures { SaysChanges (C.world core.now) first second within.now result }
+{
+    match changes_by_path(&Span { first, second }, within, core) {
+        Ok(told) => Said::Changes(told),
+        Err(_) => Said::Stopped(Stop::NoMemory),
+    }
+}
+
 // Returns what will be due at the moment. It takes no memory if nothing is due by then.
 fn explain_ahead<C: Explain>(moment: Moment, core: &C) -> Said
     ensures { SaysAhead (C.world core.now) moment result }
@@ -301,7 +364,8 @@ impl Said {
         match self {
             Said::Bad(_) => Outcome::Bad,
             Said::Stopped(_) | Said::Passed(PassEnd::Stopped(_, _)) => Outcome::Stopped,
-            Said::Why(Err(_)) | Said::Ahead(Err(_)) | Said::Story(Err(_)) => Outcome::Refused,
+            Said::Why(Err(_)) | Said::Ahead(Err(_)) | Said::Story(Err(_)) | Said::Changes(Err(_)) =>
+                { Outcome::Refused }
             Said::Replied => event_outcome(None, last),
             _ => Outcome::Well,
         }
@@ -343,12 +407,15 @@ impl Said {
             Said::History => put_history(folded, entries, printer),
             Said::Trimmed(count) => put_trimmed(*count, printer),
             Said::Why(told) => put_why(told, printer),
+            Said::WhyHeld(fate, hold) => put_why_held(fate, hold, printer),
             Said::WhyRemoved(row) => put_why_gone(row, printer),
             Said::Ahead(told) => put_ahead(told, printer),
             Said::Gone(rows) => put_gone(folded, rows.as_slice(), printer),
             Said::Handles(handles) => put_handles(handles.as_slice(), printer),
             Said::Answers => put_answers(folded, entries, printer),
             Said::Story(told) => put_story(told, printer),
+            Said::Removals(rows) => put_removals(folded, rows.as_slice(), printer),
+            Said::Changes(told) => put_changes(told, printer),
         }
     }
 }

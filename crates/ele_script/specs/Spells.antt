@@ -1,8 +1,8 @@
 -- What lines spell, and which ask for something.
-use Rattle.std.specs.Prelude.{◌≡◌, ℕ, Bool, false, ◌≤◌, List, [], ◌∷◌, ◌++◌, length, true}
+use Rattle.std.specs.Prelude.{◌≡◌, ℕ, Bool, false, ◌≤◌, List, [], ◌∷◌, ◌++◌, length, true, Some, None}
 use Rattle.ele_model.specs.declared.event.Event.{Event}
 use Rattle.ele_commands.specs.declared.command.Command.{Command}
-use Rattle.ele_commands.specs.declared.command.Command.TheVariants.{Ahead, Answers, Gone, Handles, Pass, History, Story, Trim, Why}
+use Rattle.ele_commands.specs.declared.command.Command.TheVariants.{Ahead, Answers, Changes, Gone, Handles, Pass, History, Removals, Story, Trim, Why}
 use Rattle.ele_script.specs.declared.reading.Line.{Line}
 use Rattle.ele_script.specs.declared.reading.Line.TheVariants as asks
 use Rattle.ele_script.specs.declared.reading.Question.{Question}
@@ -12,7 +12,7 @@ use Rattle.ele_script.specs.Value.{Value, Moment, Number, Path, SpellsValue, Tag
 use Rattle.ele_commands.specs.Command.{command_words, is_allowed}
 use Rattle.ele_script.specs.Words.{longest_line, words_of, is_worded}
 
--- the command of a question, and the value of the word after it, if it has one
+-- the command of a question, and the values of the words after it
 abbrev pub question_parts : Question → Command × List Value
 question_parts (question.Why tagged) = (Why, Tagged tagged ∷ [])
 question_parts (question.Ahead moment) = (Ahead, Moment moment ∷ [])
@@ -20,6 +20,9 @@ question_parts question.Gone = (Gone, [])
 question_parts question.Handles = (Handles, [])
 question_parts question.Answers = (Answers, [])
 question_parts (question.Story path) = (Story, Path path ∷ [])
+question_parts question.Removals = (Removals, [])
+question_parts (question.Changes first second None) = (Changes, Moment first ∷ Moment second ∷ [])
+question_parts (question.Changes first second (Some path)) = (Changes, Moment first ∷ Moment second ∷ Path path ∷ [])
 
 -- the command of what a line asks for, and the values of the words after it
 abbrev pub line_parts : Line → Command × List Value

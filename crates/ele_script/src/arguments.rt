@@ -214,6 +214,30 @@ pub(crate) fn name_and_moment(
     Ok((Boxed::new(alloc, first)?, second))
 }
 
+pub(crate) fn two_moments(words: &[&[u8]]) -> Result<(Moment, Moment), LineFault>
+    ensures { Reads (MomentWord ∷ MomentWord ∷ [])
+        (λ both. value.Moment both.0 ∷ value.Moment both.1 ∷ [])
+        (map (λ word. word.now) words.now) result }
+{
+    let (first, second) = two(words)?;
+    let first = word::moment(first)?;
+    Ok((first, word::moment(second)?))
+}
+
+pub(crate) fn two_moments_and_path(
+    alloc: Global,
+    words: &[&[u8]],
+) -> Result<(Moment, Moment, Path), LineFault>
+    ensures { Reads (MomentWord ∷ MomentWord ∷ PathWord ∷ [])
+        (λ all. value.Moment all.0 ∷ value.Moment all.1 ∷ value.Path all.2 ∷ [])
+        (map (λ word. word.now) words.now) result }
+{
+    let (first, second, third) = three(words)?;
+    let first = word::moment(first)?;
+    let second = word::moment(second)?;
+    Ok((first, second, word::path(alloc, third)?))
+}
+
 pub(crate) fn name_moment_and_end(
     alloc: Global,
     words: &[&[u8]],

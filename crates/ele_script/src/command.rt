@@ -117,14 +117,17 @@ fn behind_word<'w, 'l>(words: &'w [&'l [u8]], name: &str) -> Option<&'w [&'l [u8
     Some(rest)
 }
 
-/// Returns the kinds of the words after a command if there are `count` of them. An end is among the
-/// kinds only if each kind has its word.
+/// Returns the kinds of the words after a command if there are `count` of them. An end, or the path
+/// of `changes`, is among the kinds only if each kind has its word.
 pub fn kinds_for(command: Command, count: usize) -> &'static [WordKind]
     ensures { result.now ≡ kinds_if command (count == length (kinds_of command)) }
 {
     let kinds = command.kinds();
     match kinds {
         [shorter @ .., WordKind::End] if count != kinds.len() => shorter,
+        [shorter @ .., WordKind::Path] if command == Command::Changes && count != kinds.len() => {
+            shorter
+        }
         _ => kinds,
     }
 }

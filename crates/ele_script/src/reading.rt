@@ -12,7 +12,8 @@ ghost use Rattle.ele_script.specs.FirstFault.{IsFirstFault, IsEventFault, IsFaul
 use crate::arguments::{
     bytes, handle, handle_and_number, handle_number_and_bytes, moment, name, name_and_moment,
     name_and_path, name_moment_and_end, nothing, number, path, path_and_bytes, path_and_moment,
-    path_and_policy, path_and_version, path_at, source, tagged, two_paths,
+    path_and_policy, path_and_version, path_at, source, tagged, two_moments, two_moments_and_path,
+    two_paths,
 };
 use crate::command::read_command;
 use arrayvec::ArrayVec;
@@ -53,6 +54,10 @@ pub enum Question {
     Answers,
     /// What is known of the file that this path names, or named last.
     Story(Path),
+    /// Which versions were removed, with their last names.
+    Removals,
+    /// What changed between two moments, at this path and below it if there is one.
+    Changes(Moment, Moment, Option<Path>),
 }
 
 /// The maximum number of bytes of a line, without its line feed.
@@ -296,6 +301,8 @@ fn line_behind_any(alloc: Global, command: Command, words: &[&[u8]]) -> Result<L
         Command::Handles => nothing(words).and(Ok(Line::Question(Question::Handles))),
         Command::Answers => nothing(words).and(Ok(Line::Question(Question::Answers))),
         Command::Story => path(alloc, words).map(|path| Line::Question(Question::Story(path))),
+        Command::Removals => nothing(words).and(Ok(Line::Question(Question::Removals))),
+        Command::Changes => changes(alloc, words),
     }
 }
 
@@ -309,5 +316,20 @@ fn mark(alloc: Global, words: &[&[u8]]) -> Result<Line, LineFault>
     } else {
         let read = name_and_moment(alloc, words);
         read.map(|(name, at)| Line::Event(Event::Mark(name, at, None)))
+    }
+}
+
+// Reads the question for changes, which has a path if there are three words.
+fn changes(alloc: Global, words: &[&[u8]]) -> Result<Line, LineFault>
+    ensures { ReadsLine Command.Changes (map (λ word. word.now) words.now) result }
+{
+    if words.len() == 3 {
+        let read = two_moments_and_path(alloc, words);
+        read.map(|(first, second, path)| {
+            Line::Question(Question::Changes(first, second, Some(path)))
+        })
+    } else {
+        let read = two_moments(words);
+        read.map(|(first, second)| Line::Question(Question::Changes(first, second, None)))
     }
 }

@@ -197,7 +197,7 @@ const LIMITED: [(&str, LimitNumbers); 25] = [
 ];
 
 /// Scripts under the largest limits whose run explains.
-const EXPLAINED: [&str; 10] = [
+const EXPLAINED: [&str; 12] = [
     "explained_landmarks",
     "explained_policies",
     "explained_floors",
@@ -208,6 +208,8 @@ const EXPLAINED: [&str; 10] = [
     "explained_forgotten_moments",
     "explained_stories",
     "explained_holds",
+    "explained_changes",
+    "explained_last_names",
 ];
 
 /// What the script prints.

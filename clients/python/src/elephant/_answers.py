@@ -266,7 +266,7 @@ class Due(NamedTuple):
 class Removed(NamedTuple):
     """The version was removed at a moment, and was due since another one, for a cause as that of `Due`.
 
-    Only a store with a history knows it.
+    `held` is the mark that held it after its policy had let it go (None: no mark did). Only a store with a history knows it.
     """
 
     moment: Moment
@@ -275,9 +275,11 @@ class Removed(NamedTuple):
     age: Optional[int] = None
     by: Optional[int] = None
     level: Optional[int] = None
+    held: Optional[Marked] = None
 
     def __str__(self) -> str:
-        return f"removed {self.moment} due {self.since}{_cause_words(self.cause, self.age, self.by, self.level)}"
+        held = "" if self.held is None else f" held{str(self.held)[len('marked'):]}"
+        return f"removed {self.moment}{held} due {self.since}{_cause_words(self.cause, self.age, self.by, self.level)}"
 
 
 Fate = Union[Current, Open, Marked, Kept, Due, Removed]
@@ -285,7 +287,7 @@ Fate = Union[Current, Open, Marked, Kept, Due, Removed]
 
 class Removal(NamedTuple):
     """A version that a stored event removed: when, the numbers of its file and its own, the path that led to the file just before (None: no
-    live names did), since when it was due, and the cause, as `Removed` has it."""
+    live names did), since when it was due, the cause, and the mark that held it, as `Removed` has them."""
 
     moment: Moment
     file: int
@@ -297,6 +299,7 @@ class Removal(NamedTuple):
     by: Optional[int] = None
     level: Optional[int] = None
     spelled: Optional[bytes] = None
+    held: Optional[Marked] = None
 
 
 class Gone(NamedTuple):

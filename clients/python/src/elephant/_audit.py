@@ -6,10 +6,12 @@ import re
 from collections.abc import Iterator
 
 from ._answers import Answered, Answers, Gone, History, OpenHandle, Removal, Removed
-from ._reading import DUE, NUMBER, PATH, UnknownAnswer, counted, due_in, fail, lines_of, matches, moment_in, number_or_none, path_in
+from ._reading import (
+    DUE, HELD, NUMBER, PATH, UnknownAnswer, counted, due_in, fail, held_in, lines_of, matches, moment_in, number_or_none, path_in,
+)
 
-_REMOVAL = re.compile(rf"- {NUMBER} {NUMBER} {NUMBER} {PATH} {DUE}")
-_REMOVED = re.compile(rf"ok why removed {NUMBER} {DUE}")
+_REMOVAL = re.compile(rf"- {NUMBER} {NUMBER} {NUMBER} {PATH} {HELD}{DUE}")
+_REMOVED = re.compile(rf"ok why removed {NUMBER} {HELD}{DUE}")
 _HANDLE = re.compile(rf"- {NUMBER} {NUMBER} (?:draft|{NUMBER}) (?:-|{NUMBER}) {PATH}")
 # The answers of events that rows follow.
 _WITH_ROWS = re.compile(rf"ok (?:versions|names|restorable|due|usage|groups) {NUMBER}")
@@ -22,7 +24,7 @@ def read_gone(answer: bytes) -> Gone:
     for found in matches(rows, count, _REMOVAL):
         path, spelled = path_in(found[4])
         moment, file, number = moment_in(found[1], found[0]), int(found[2]), int(found[3])
-        removals.append(Removal(moment, file, number, path, *due_in(found, 5), spelled))
+        removals.append(Removal(moment, file, number, path, *due_in(found, 8), spelled, held_in(found, 5)))
     return Gone(folded, tuple(removals))
 
 
@@ -32,7 +34,7 @@ def read_why(answer: bytes) -> Removed:
     found = _REMOVED.fullmatch(first)
     if not found or rows:
         fail(first)
-    return Removed(moment_in(found[1], first), *due_in(found, 2))
+    return Removed(moment_in(found[1], first), *due_in(found, 5), held_in(found, 2))
 
 
 def read_handles(answer: bytes) -> list[OpenHandle]:

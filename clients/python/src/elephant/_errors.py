@@ -172,7 +172,7 @@ class NotMember(Refused, number=26):
 
 
 class NotAhead(Refused, number=41):
-    """The end of a mark must be later than now, and the moment of 'ahead' not earlier."""
+    """The end of a mark must be later than now, the moment of 'ahead' not earlier, nor the second of 'changes' than its first."""
 
 
 class BadName(Refused, ValueError, number=28):
@@ -219,6 +219,18 @@ class HandlesOpen(ElephantError, ValueError, number=73):
     """A handle is open."""
 
 
+class NoJournal(ElephantError, ValueError, number=74):
+    """The store has no journal."""
+
+
+class HasJournal(ElephantError, ValueError, number=75):
+    """The store has a journal."""
+
+
+class BadJournal(ElephantError, ValueError, number=76):
+    """The bytes are no file of a store."""
+
+
 # End of the codes.
 
 
@@ -254,10 +266,6 @@ class RemovalWaits(ElephantError):
 
 class MassRemoval(RemovalWaits):
     """A pass would remove much at once, and wasn't confirmed: `count` of the `held` versions, which wait for a day. Nothing was removed."""
-
-
-class HasJournal(ElephantError, ValueError):
-    """The store has a journal, and `renew` is for a store without one. Nothing has changed."""
 
 
 class ReadOnly(ElephantError):

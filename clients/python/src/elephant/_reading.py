@@ -8,10 +8,10 @@ import re
 from collections.abc import Iterator
 from typing import NoReturn, Optional
 
-from ._answers import Cause
+from ._answers import Cause, Marked
 from ._errors import ElephantError, error_of
 from ._moments import LAST_MOMENT, Moment
-from ._names import path_of
+from ._names import name_of, path_of
 
 
 class UnknownAnswer(ElephantError):
@@ -21,6 +21,8 @@ class UnknownAnswer(ElephantError):
 NUMBER = "(0|[1-9][0-9]{0,19})"
 PATH = r"(-|(?:/[!-\"$-.0-?A-~]{1,64})+)"
 DUE = rf"due {NUMBER}( at once| by age {NUMBER}| by {NUMBER} level {NUMBER})"
+MARK = rf"([!-\"$-.0-?A-~]{{1,64}}) {NUMBER}(?:/{NUMBER})?"
+HELD = rf"(?:held {MARK} )?"
 _REFUSED = re.compile(rf"(?:no|bad|stop) {NUMBER} [A-Z][A-Za-z]+(?: (\w+|-))?")
 MOMENT_OR_DASH = f"(?:-|{NUMBER})"
 
@@ -80,3 +82,14 @@ def due_in(found: re.Match[str], at: int) -> tuple[Moment, Cause, Optional[int],
     since, words, age, by, level = found.group(*range(at, at + 5))
     cause = Cause.AT_ONCE if words == " at once" else Cause.BY_AGE if by is None else Cause.DISPLACED
     return moment_in(since, found[0]), cause, number_or_none(age), number_or_none(by), number_or_none(level)
+
+
+def mark_in(found: re.Match[str], at: int) -> Marked:
+    """Returns a mark, from a match whose groups of it begin at a place."""
+    group, moment, until = found.group(*range(at, at + 3))
+    return Marked(name_of(group.encode("ascii")), moment_in(moment, found[0]), None if until is None else moment_in(until, found[0]))
+
+
+def held_in(found: re.Match[str], at: int) -> Optional[Marked]:
+    """Returns the mark that held a version, or None if no mark did, from a match whose groups of it begin at a place."""
+    return None if found[at] is None else mark_in(found, at)

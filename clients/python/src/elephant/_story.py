@@ -5,16 +5,16 @@ from __future__ import annotations
 import re
 from typing import Optional
 
-from ._answers import Current, Due, Fate, Kept, Marked, NameStory, Open, Story, VersionStory
+from ._answers import Current, Due, Fate, Kept, NameStory, Open, Story, VersionStory
 from ._moments import Moment
-from ._names import name_of
-from ._reading import DUE, MOMENT_OR_DASH, NUMBER, PATH, counted, due_in, fail, matches, moment_in, number_or_none, path_in
+from ._reading import (
+    DUE, HELD, MARK, MOMENT_OR_DASH, NUMBER, PATH, counted, due_in, fail, held_in, mark_in, matches, moment_in, number_or_none, path_in,
+)
 
-_MARK = rf"([!-\"$-.0-?A-~]{{1,64}}) {NUMBER}(?:/{NUMBER})?"
 _KEPT = rf"kept(?: until {NUMBER})?(?: level {NUMBER})?"
-_FATE = re.compile(rf"(-)|(current)|(open)|marked {_MARK}|({_KEPT})|{DUE}")
+_FATE = re.compile(rf"(-)|(current)|(open)|marked {MARK}|({_KEPT})|{DUE}")
 _VERSION = re.compile(
-    rf"- version {NUMBER} (?:- - -|{NUMBER} {MOMENT_OR_DASH} {NUMBER})(?: removed {NUMBER})?(?: held {_MARK})? ([a-z-].*)"
+    rf"- version {NUMBER} (?:- - -|{NUMBER} {MOMENT_OR_DASH} {NUMBER})(?: removed {NUMBER})? {HELD}([a-z-].*)"
 )
 _NAME = re.compile(rf"- name {NUMBER} {MOMENT_OR_DASH} {PATH}")
 
@@ -30,7 +30,7 @@ def read_story(answer: bytes) -> Story:
 
 def _version(found: re.Match[str]) -> VersionStory:
     row, (number, closed, ended, length, removed) = found[0], found.group(*range(1, 6))
-    held, fate = None if found[6] is None else _mark(found, 6), _fate(found[9], row)
+    held, fate = held_in(found, 6), _fate(found[9], row)
     if held is not None and not isinstance(fate, Due):
         fail(row)
     moments = _moment(closed, row), _moment(ended, row)
@@ -46,17 +46,11 @@ def _fate(words: str, row: str) -> Optional[Fate]:
     if found[2] or found[3]:
         return Current() if found[2] else Open()
     if found[4]:
-        return _mark(found, 4)
+        return mark_in(found, 4)
     if found[7]:
         return Kept(_moment(found[8], row), number_or_none(found[9]))
     since, _, age, by, level = due_in(found, 10)
     return Due(since, age, by, level)
-
-
-def _mark(found: re.Match[str], at: int) -> Marked:
-    """Returns a mark, from a match whose groups of it begin at a place."""
-    group, moment, until = found.group(*range(at, at + 3))
-    return Marked(name_of(group.encode("ascii")), moment_in(moment, found[0]), _moment(until, found[0]))
 
 
 def _moment(word: Optional[str], row: str) -> Optional[Moment]:

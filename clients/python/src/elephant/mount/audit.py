@@ -14,7 +14,7 @@ from .. import ElephantError, Limits, Refused, Removal, Store, VersionStory
 from .store import MountStore
 
 # Lines of a store with a history.
-LINES = frozenset(("answers", "gone", "handles", "history", "trim"))
+LINES = frozenset(("answers", "gone", "handles", "history", "removals", "trim"))
 NO_HISTORY = "this mount keeps no history: mount the folder with --history, and it has all since the journal began"
 
 _NOTE = re.compile(r"^- note ([0-9a-f]+)$", re.M)

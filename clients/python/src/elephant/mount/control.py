@@ -40,8 +40,8 @@ MOST_FOLDER = 100
 # Lines after which the tree may differ, and lines that change nothing.
 # Printed by tools/pages/surface --write: the lines, from ele_commands/src/command.rt and ele_model/specs/NothingChanges.antt.
 _ASK = frozenset((
-    "due", "groups", "list", "read", "restorable", "stat", "usage", "versions", "history", "note", "trim", "ahead", "answers", "gone",
-    "handles", "story", "why",
+    "due", "groups", "list", "read", "restorable", "stat", "usage", "versions", "history", "note", "trim", "ahead", "answers", "changes",
+    "gone", "handles", "removals", "story", "why",
 ))
 _SHORT = frozenset(("clean", "default", "group", "mark", "pass", "policy", "unmark"))
 # End of the lines.
@@ -78,7 +78,7 @@ class Lines:
         """Lines of the mount's own, without words, that are answered without the lock."""
 
     def answer(self, line: str, caller: Optional[tuple[int, int]] = None) -> tuple[str, Changes]:
-        """Returns the answer to a line, with line feeds, and what it changed in the tree. `caller`: the user and the process that sent it."""
+        """Returns the answer to a line, with line feeds, and what it changed in the tree. `caller`: its user and its process."""
         if line in self.more:
             return self.more[line](), []
         try:

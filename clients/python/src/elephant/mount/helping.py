@@ -128,8 +128,14 @@ OWN = {
     "group drop": Help(("group drop G",), ("Removes a group and its marks. No file is removed.",), ("group drop tax",)),
     "gone": Help(
         ("gone",),
-        (f"Lists the removed versions: when, the file, the version, the path of then, and why it was due. {_HISTORY}",),
+        (f"Lists the removed versions: when, the file, the version, the path of then, the mark that held it longer than its policy, and "
+         f"why it was due. {_HISTORY}",),
         ("gone",),
+    ),
+    "removals": Help(
+        ("removals",),
+        (f"Lists the same with the last path of a file that was deleted, and until when it led there. {_HISTORY}",),
+        ("removals",),
     ),
     "answers": Help(("answers",), (f"Lists the changes since the journal began, each with its answer. {_HISTORY}",), ("answers",)),
     "handles": Help(
@@ -139,7 +145,8 @@ OWN = {
     ),
     "trim": Help(
         ("trim",),
-        (f"Empties what gone, answers and history list, and frees its memory. The next change makes it anew from the journal. {_HISTORY}",),
+        (f"Empties what gone, removals, answers and history list, and frees its memory. The next change makes it anew from the journal. "
+         f"{_HISTORY}",),
         ("trim",),
     ),
     "usage": Help(
@@ -170,7 +177,7 @@ OWN = {
 NOT_HERE = frozenset(("clock", "tick", "open write", "write", "truncate", "abandon"))
 LISTED = frozenset((
     "history", "policy", "default", "why", "due", "ahead", "clean", "group make", "group add", "mark", "unmark", "gone", "answers",
-    "handles", "trim", "usage",
+    "changes", "handles", "removals", "trim", "usage",
 ))
 LINES = """\
 elephant-mount --at FOLDER LINE sends one of these lines to a mounted folder,
@@ -195,7 +202,7 @@ and prints its answer. A MOMENT is a time as you type it: 'yesterday 15:00'.
   clean all             remove all that is due now
   group make G, group add G FILE, mark G MOMENT [until MOMENT], unmark G MOMENT
                         keep what the files of a group held at a moment
-  gone, answers, handles, history, trim
+  gone, removals, answers, handles, history, trim
                         an audit of a mount with --history
   usage, time, time is right, journal, rewrite, dump
                         counts, the clock, the journal, policies as lines

@@ -38,6 +38,13 @@ COMMANDS: dict[str, tuple[str, str, str]] = {
         "Makes a file with an empty version 1. Its policy is the default of its directory. Exists if the name is in use, NoEntry if the "
         "directory isn't there.",
     ),
+    "changes": (
+        "changes M U [P]", "ok changes K, then K lines - KIND TARGET V V PATH PATH in order",
+        "Lists what changed between the moments M and U: each name that was made, is back, or was linked, renamed, deleted or unlinked, "
+        "and each file with another version. The columns are the versions and the paths of M and of U; '-' is none. 'forgotten' is a file"
+        " of which neither version is held. With P only what is at P or below. It needs the option --explain. Future if U is later than "
+        "now, NotAhead if it is earlier than M.",
+    ),
     "due": (
         "due", "ok due K, then K lines - RIPE FILE NUMBER in order",
         "Lists the versions that may be removed now: since when, the file, and the version. You can still read them. 'ahead M' lists "
@@ -71,7 +78,8 @@ COMMANDS: dict[str, tuple[str, str, str]] = {
     "gone": (
         "gone", "ok gone F K, then K lines - MOMENT FILE NUMBER PATH FATE in order",
         "Lists the versions that the stored events removed: when, the file, the version, the path that the file had then, and why it was "
-        "due. It needs the option --explain. It is never refused.",
+        "due. 'held G M' before the fate is the mark that held it longer than its policy. No version is removed while a mark covers it "
+        "that has not ended. It needs the option --explain. It is never refused.",
     ),
     "history": (
         "history", "ok history F K, then K lines - LINE in order",
@@ -153,6 +161,12 @@ COMMANDS: dict[str, tuple[str, str, str]] = {
         "restorable", "ok restorable K, then K lines - DIR NAME file F or - DIR NAME directory D in order",
         "Lists the deleted names that 'undelete' can restore. It is never refused.",
     ),
+    "removals": (
+        "removals", "ok removals F K, then K lines - MOMENT FILE NUMBER PATH UNTIL FATE in order",
+        "Lists the versions that the stored events removed, as 'gone' does, with the last path of the file: the one that led to it just "
+        "before, or the last one that did, and until when ('-' if it still led there). It needs the option --explain. It is never "
+        "refused.",
+    ),
     "save": (
         "save P X", "ok version V",
         "Makes a version of the file at P with the bytes X, without a handle. If P names nothing, it makes the file, with an empty "
@@ -180,7 +194,8 @@ COMMANDS: dict[str, tuple[str, str, str]] = {
     ),
     "trim": (
         "trim", "ok trimmed K",
-        "Folds the stored events of the history, which frees their memory. Later answers stay the same. It is never refused.",
+        "Folds the stored events of the history, which frees their memory. Later answers stay the same. K says how many events an audit "
+        "loses: 'history' and 'answers' no longer have them. It is never refused.",
     ),
     "unlink": (
         "unlink P", "ok done",
@@ -214,8 +229,8 @@ COMMANDS: dict[str, tuple[str, str, str]] = {
     ),
     "why": (
         "why T", "ok why FATE, or ok why removed MOMENT FATE",
-        "Prints why a version stays, since when it may be removed, or why it was. It needs the option --explain. It is refused as 'read' "
-        "is.",
+        "Prints why a version stays, since when it may be removed, or why it was. 'held G M' before the fate is the mark that held it "
+        "longer than its policy. It needs the option --explain. It is refused as 'read' is.",
     ),
 }
 # End of the commands.

@@ -106,8 +106,8 @@ class Stories:
                 yield Chapter(number, row, self._store.why(node.path, version=number), story.get(number))
             else:
                 end = ends.get(number)
-                fate = Due(end) if end is not None and end <= self._store.now else Kept(end, None)
-                yield Chapter(number, row, fate, story.get(number))
+                is_due = end is not None and end <= self._store.now
+                yield Chapter(number, row, Due(end) if is_due and end is not None else Kept(end, None), story.get(number))
 
     def _names(self, file: int) -> Iterator[dict[str, Optional[str]]]:
         """Yields the names that a file had, each with its end, and then those that it has."""

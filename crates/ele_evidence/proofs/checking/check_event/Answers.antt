@@ -1,4 +1,4 @@
-use Rattle.ele_evidence.proofs.Basics.{List, refl, sym, ℕ, ◌++◌, ◌∙◌, ap}
+use Rattle.ele_evidence.proofs.Basics.{refl}
 use Rattle.ele_evidence.proofs.RowByRow.{hashed, no_row}
 use Rattle.ele_evidence.proofs.checking.check_event.Goals as goal
 

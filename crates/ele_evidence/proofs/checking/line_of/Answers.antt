@@ -1,6 +1,5 @@
-use Rattle.ele_evidence.proofs.Basics.{List, ap, length, refl, sym, ◌+◌, ◌∙◌, ℕ}
+use Rattle.ele_evidence.proofs.Basics.{refl}
 use Rattle.ele_evidence.proofs.RowByRow.{before_rest}
-use Rattle.ele_evidence.specs.Verdict.{line_after}
 use Rattle.ele_evidence.proofs.checking.line_of.Goals as goal
 
 pub returns : goal.returns

@@ -1,5 +1,5 @@
 use Rattle.std.proofs.lemmas.Result.{IfOk-weaker}
-use Rattle.ele_evidence.proofs.Basics.{List, subst, ℕ}
+use Rattle.ele_evidence.proofs.Basics.{subst}
 use Rattle.ele_evidence.proofs.RowByRow.{newest}
 use Rattle.ele_evidence.specs.EvidenceText.{IsRow}
 use Rattle.ele_model.specs.declared.entry.Entry.{Entry}

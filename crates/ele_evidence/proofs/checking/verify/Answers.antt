@@ -1,4 +1,4 @@
-use Rattle.ele_evidence.proofs.Basics.{sym, ◌∙◌, ◌≡◌}
+use Rattle.ele_evidence.proofs.Basics.{◌∙◌, ◌≡◌}
 use Rattle.ele_evidence.proofs.RowByRow.{begins_none, first_line, headed, not_headed}
 use Rattle.ele_evidence.specs.EvidenceText.{head_row}
 use Rattle.ele_evidence.proofs.checking.verify.Goals as goal

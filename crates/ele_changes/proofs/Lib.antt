@@ -1,0 +1,2 @@
+mod Basics
+mod BothMoments

@@ -1,0 +1,2 @@
+-- line after line
+mod Heard

@@ -1,0 +1,3 @@
+mod Basics
+mod Lines
+mod Replays
