@@ -194,7 +194,7 @@ def whose(room: str, asked: argparse.Namespace) -> Counts:
         (mounted.folder / "f").write_text("three", encoding="ascii")
         seen.expect("notes", _notes(mounted), [own, copier, own])
         seen.expect("a line of a user", mounted.ask("default", "/", "one").splitlines(), ["ok done"])
-        seen.expect("its note", _notes(mounted)[3].startswith(f"user {os.getuid()} "), True)
+        seen.expect("its note", _notes(mounted)[-1].startswith(f"user {os.getuid()} "), True)
         (mounted.folder / "h").write_text("four", encoding="ascii")
         (mounted.folder / "h").write_text("five", encoding="ascii")
         seen.expect("removals", mounted.ask("clean all").startswith("ok removed "), True)

@@ -238,7 +238,7 @@ def printed(found: Union[Gone, Answers, History, list[OpenHandle]]) -> str:
     if isinstance(found, Gone):
         rows = [
             f"- {it.moment} {it.file} {it.number} {word_of(it.spelled)} "
-            + str(Removed(at(0), it.since, it.cause, it.age, it.by, it.level)).removeprefix("removed 0 ")
+            + str(Removed(at(0), it.since, it.cause, it.age, it.by, it.level, it.held)).removeprefix("removed 0 ")
             for it in found.removals
         ]
         head = f"ok gone {found.folded}"
@@ -286,7 +286,7 @@ class WorkedScripts(unittest.TestCase):
                     path = store.path_of(it.file)
                     if path is None:
                         continue
-                    fate = Removed(it.moment, it.since, it.cause, it.age, it.by, it.level)
+                    fate = Removed(it.moment, it.since, it.cause, it.age, it.by, it.level, it.held)
                     try:
                         self.assertEqual(store.why(path, version=it.number), fate)
                     except ElephantError as fault:

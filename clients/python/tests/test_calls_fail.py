@@ -119,7 +119,7 @@ ROWS: dict[type, dict[str, list[Call]]] = {
         "link": [lambda it: it.store.link("/d/f", "/n")], "list": [lambda it: it.store.list("/d")],
         "make_parents": [lambda it: it.store.make_parents("/d/m/f"), lambda it: it.store.make_parents("/d/f")],
         "mark": [lambda it: it.store.mark("k", 6, 90)],
-        "mkdir": [lambda it: it.store.mkdir("/n")],
+        "mkdir": [lambda it: it.store.mkdir("/n")], "note": [lambda it: it.store.note(b"why")],
         "open": [
             opened("wb"), opened("w"), opened("r+b"), opened("ab"), opened("rb"), opened("xb", "/n"), opened("wb", "/n"),
             opened("wb", "/n", b""),

@@ -68,6 +68,7 @@ pass 2
 usage
 unmark g {START}
 group drop g
+note 6869
 tick 0
 """
 

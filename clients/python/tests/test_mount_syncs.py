@@ -23,6 +23,7 @@ from elephant import JournalError
 from elephant.mount.operations import Operations
 from elephant.mount.store import MountStore
 from elephant.mount.tree import File
+from elephant.mount.who import Who
 
 
 class Syncs(unittest.TestCase):
@@ -36,6 +37,7 @@ class Syncs(unittest.TestCase):
         self.store = store = MountStore.__new__(MountStore)
         journal = types.SimpleNamespace(file=self.file, check=lambda: self.calls.append("check"), close=lambda: None, path="journal")
         vars(store).update(_lock=threading.RLock(), _journal=journal, _is_sync_lost=False, _is_broken=False, stopped="", unsynced=True)
+        vars(store).update(who=Who())
         self.operations = operations = Operations.__new__(Operations)
         save = mock.Mock(side_effect=lambda _: self.calls.append("save"))
         node = File.__new__(File)

@@ -282,7 +282,7 @@ class Openings(Parts):
     """A close sends the kernel's request `flush`, and `release` only when no process has the descriptor any more."""
 
     def opened(self, node: File, flags: int) -> int:
-        return int(asyncio.run(self.operations.open(node.ino, flags, None)).fh)
+        return int(asyncio.run(self.operations.open(node.ino, flags, types.SimpleNamespace(uid=1, pid=2))).fh)
 
     def write(self, handle: int, data: bytes) -> None:
         self.assertEqual(asyncio.run(self.operations.write(handle, 0, data)), len(data))

@@ -2,6 +2,7 @@
 //! whether it is open, and the store.
 ghost use Rattle.std.specs.Prelude.{◌≡◌, true, false};
 ghost use Rattle.ele_embed.specs.Embedding.{Embedding};
+ghost use Rattle.ele_embed.specs.contracts.Store.{the_row as store_row};
 ghost use Rattle.ele_c.specs.Held.{owns_store};
 
 mod fresh;
@@ -18,7 +19,7 @@ use std::marker::{Model, Send};
 pub struct Elephant {
     at: *mut u8,
     is_full: bool,
-    ghost held: { Embedding },
+    ghost held: { Embedding } by { store_row.coded },
 }
 
 impl Model for Elephant {

@@ -2,10 +2,9 @@
 ghost use Rattle.std.specs.Prelude.{◌≡◌, ◌≢◌, ◌⊎◌, true, [], IfOk, OnErr};
 ghost use Rattle.ele_forecast_text.specs.Plan.{versions_of};
 ghost use Rattle.ele_rule_forecast.specs.Judged.{AreJudged};
-ghost use Rattle.ele_space.specs.Amounts.{AreAmountsAt};
 ghost use Rattle.ele_svg.specs.Drawing.{has_curves};
 ghost use Rattle.ele_outlook.specs.Reading.{IsFoundIn, MayLack};
-ghost use Rattle.ele_outlook.specs.Told.{AreFreed, AreRows, has_amounts, has_removals, listed_numbers, moments_if, numbers_at, stayings_of};
+ghost use Rattle.ele_outlook.specs.Told.{AreRows, listed_numbers, numbers_at, stayings_of};
 
 use crate::input::ReadLines;
 use crate::options::{ForecastOptions, Form};
@@ -15,7 +14,6 @@ use ele_forecast_text::{Plan, Staying, listed_at};
 use ele_moment::{Moment, NoMemory, VersionNo};
 use ele_peer_rules::Row;
 use ele_rule_forecast::{AskedRule, Judged, judge};
-use ele_space::{Amounts, Removals, amounts_at, moments_in, removals_of};
 use ele_svg::drawing_counts;
 use std::alloc::Global;
 
@@ -28,10 +26,6 @@ pub struct Found {
     pub listed: Vec<VersionNo>,
     /// The counts of a table over time or of a drawing's curves.
     pub counts: Vec<Counts>,
-    /// The bytes at the moments of these counts.
-    pub amounts: Vec<Amounts>,
-    /// What the removals under each policy free, at each moment that is asked about.
-    pub removals: Vec<Removals>,
 }
 
 /// Returns what the form shows of versions beside their plans. `NoMemory` if memory is refused.
@@ -52,14 +46,10 @@ pub(crate) fn find(
     )?;
     let listed = listed(alloc, options.form, plans)?;
     let counts = counted(alloc, options.form, &read.closings, plans)?;
-    let amounts = summed(alloc, options, read, plans, counts.as_slice())?;
-    let removals = freed(alloc, options, plans)?;
     Ok(Found {
         judged,
         listed,
         counts,
-        amounts,
-        removals,
     })
 }
 
@@ -90,67 +80,10 @@ fn counted(
     ensures err { OnErr result ((versions_of plans.now ≢ []) ⊎ (has_curves plans.now ≡ true)) }
 {
     match form {
-        Form::Every(step) | Form::EveryCsv(step) => counts_every(alloc, step, closings, plans),
+        Form::Every(step) => counts_every(alloc, step, closings, plans),
         Form::Drawing => drawing_counts(alloc, closings, plans),
         Form::Table | Form::Due | Form::Kept | Form::Json | Form::Csv => Ok(Vec::new(alloc)),
     }
-}
-
-// Returns the bytes at the moments of these counts, if the form has them.
-fn summed(
-    alloc: Global,
-    options: &ForecastOptions,
-    read: &ReadLines,
-    plans: &[Plan],
-    counts: &[Counts],
-) -> Result<Vec<Amounts>, NoMemory>
-    ensures ok { IfOk result (λ amounts. AreAmountsAt
-        (moments_if (has_amounts options.now.form options.now.sizes) counts.now)
-        read.now.closings read.now.details.sizes.items plans.now amounts.items) }
-    ensures err { OnErr result ((has_amounts options.now.form options.now.sizes ≡ true)
-        × (counts.now ≢ [])) }
-{
-    if !has_amounts(options.form, options.sizes) {
-        return Ok(Vec::new(alloc));
-    }
-    let moments = moments_in(alloc, counts)?;
-    let sizes = read.details.sizes.as_slice();
-    amounts_at(alloc, moments.as_slice(), &read.closings, sizes, plans)
-}
-
-// Whether the form has the bytes at the moments of its counts.
-fn has_amounts(form: Form, sizes: bool) -> bool
-    ensures { result ≡ has_amounts form sizes }
-{
-    match form {
-        Form::Every(_) => sizes,
-        Form::EveryCsv(_) => true,
-        Form::Table | Form::Drawing | Form::Due | Form::Kept | Form::Json | Form::Csv => false,
-    }
-}
-
-// Returns what the removals under each plan free, if the form has it.
-fn freed(
-    alloc: Global,
-    options: &ForecastOptions,
-    plans: &[Plan],
-) -> Result<Vec<Removals>, NoMemory>
-    ensures ok { IfOk result
-        (λ removals. AreFreed (has_removals options.now) plans.now removals.items) }
-    ensures err { OnErr result (options.now.moments.items ≢ []) }
-{
-    if has_removals(options) {
-        removals_of(alloc, plans)
-    } else {
-        Ok(Vec::new(alloc))
-    }
-}
-
-// Whether the form has what the removals free.
-fn has_removals(options: &ForecastOptions) -> bool
-    ensures { result ≡ has_removals options.now }
-{
-    matches!(options.form, Form::Table | Form::Json) && options.sizes && !options.moments.is_empty()
 }
 
 // Returns the numbers of the versions that the form lists.
@@ -184,8 +117,9 @@ fn listed_of(
         return Ok(Vec::new(alloc));
     };
     match form {
-        Form::Table | Form::Drawing | Form::Json | Form::Csv | Form::Every(_) | Form::EveryCsv(_) =>
-            Ok(Vec::new(alloc)),
+        Form::Table | Form::Drawing | Form::Json | Form::Csv | Form::Every(_) => {
+            Ok(Vec::new(alloc))
+        }
         Form::Due => listed_at(alloc, false, forecasts, staying),
         Form::Kept => listed_at(alloc, true, forecasts, staying),
     }

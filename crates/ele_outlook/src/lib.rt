@@ -10,9 +10,7 @@ mod input;
 mod options;
 mod row;
 mod telling;
-mod unplaced;
 
-pub use ele_forecast_text::AskedPolicy;
 pub use fault::{BadLine, ForecastFault, put_bad_line};
 pub use options::{ForecastOptions, Form, LineForm, MOST_POLICIES};
 pub use telling::write_forecast;

@@ -2,8 +2,9 @@
 ghost use Rattle.std.specs.Prelude.{◌≡◌};
 ghost use Rattle.ele_outlook.specs.Told.{line_form};
 
-use ele_forecast_text::{AskedPolicy, Columns};
+use ele_forecast_text::Columns;
 use ele_moment::Moment;
+use ele_policy::Policy;
 use ele_rule_forecast::AskedRule;
 use ele_tool_words::Offset;
 
@@ -24,11 +25,8 @@ pub enum Form {
     /// A heading, and a row for each version.
     Csv,
     /// The number of versions that each policy keeps at moments from the first closing on. The moments
-    /// are this many seconds apart, at most 400 of them. With sizes also the bytes that are kept, and those
-    /// that the removals up to then free.
+    /// are this many seconds apart, at most 400 of them.
     Every(u64),
-    /// The same as CSV.
-    EveryCsv(u64),
 }
 
 /// The most policies that a forecast compares.
@@ -38,14 +36,14 @@ pub const MOST_POLICIES: usize = 16;
 /// the versions that stay, the fields of its input and the form of its output.
 #[derive(Drop)]
 pub struct ForecastOptions {
-    pub policies: Vec<AskedPolicy>,
+    pub policies: Vec<Policy>,
     /// Whether the table of one policy begins with a line with its name.
     pub named: bool,
     pub moments: Vec<Moment>,
     /// The rules of other tools beside the policies. Only a table, JSON and CSV have these.
     pub rules: Vec<AskedRule>,
-    /// The clock of each time that names no offset. None means that of UTC.
-    pub clock: Option<Offset>,
+    /// The clock of each time that names no offset.
+    pub clock: Offset,
     /// Whether each line has a label after its time.
     pub labels: bool,
     /// Whether each line has a size after its time and before its label.
@@ -76,6 +74,6 @@ pub(crate) fn line_form(options: &ForecastOptions) -> LineForm
             sizes: options.sizes,
         },
         texts: matches!(options.form, Form::Json),
-        clock: options.clock.unwrap_or(Offset::Ahead(0)),
+        clock: options.clock,
     }
 }

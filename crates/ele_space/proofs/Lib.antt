@@ -1,2 +1,4 @@
 -- the amounts of one more moment
 mod Rows
+-- joined texts, and what a list is put by
+mod Commas

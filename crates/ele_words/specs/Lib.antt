@@ -1,5 +1,4 @@
 pub mod Ends
-pub mod Evidence
 pub mod Forecasts
 pub mod Progress
 pub mod RunEnds
@@ -9,6 +8,4 @@ pub mod StrictEnd
 pub mod Summary
 pub mod SystemError
 pub mod SystemReason
-pub mod Typing
 pub mod Watched
-pub mod Written

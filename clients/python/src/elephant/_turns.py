@@ -40,13 +40,12 @@ class Opening(NamedTuple):
     repair: bool = False
     guard: bool = True
     checkpoint: Optional[bytes] = None
-    in_file: bool = False
 
     def check(self) -> None:
         """Raises ValueError if the arguments don't fit together."""
         if (isinstance(self.clock, str) and self.clock not in ("system", "manual")) or self.fsync not in ("always", "sync"):
             raise ValueError(f"clock is 'system' or 'manual', and fsync 'always' or 'sync', not {self.clock!r} and {self.fsync!r}")
-        if self.journal is None and not self.in_file and (self.read_only or self.repair):
+        if self.journal is None and (self.read_only or self.repair):
             raise ValueError("read_only and repair are for a store with a journal: give its path")
         if self.at is not None and not self.read_only:
             raise ValueError("at is for read_only=True; the clock of another store is moved by clock()")
@@ -54,7 +53,7 @@ class Opening(NamedTuple):
     @property
     def is_guarded(self) -> bool:
         """Whether a guard looks at what is to be removed: in a store of earlier times whose time follows the time of day."""
-        is_of_before = self.journal is not None or self.checkpoint is not None or self.in_file
+        is_of_before = self.journal is not None or self.checkpoint is not None
         return self.guard and is_of_before and not self.read_only and self.clock != "manual"
 
     def watch(self) -> Optional[Watch]:
@@ -137,10 +136,7 @@ class Turns:
 
     def _put_back(self, checkpoint: bytes) -> Core:
         """Returns the core of a checkpoint, and closes the sessions and readers that were open in it."""
-        return self._close_all(Core(self._opening.limits, self._has_history, checkpoint), checkpoint)
-
-    def _close_all(self, core: Core, checkpoint: bytes) -> Core:
-        """Closes the sessions and readers that are open in a core, whose checkpoint this is."""
+        core = Core(self._opening.limits, self._has_history, checkpoint)
         self._opening = self._opening._replace(limits=limits_in(checkpoint))
         closed = []
         for it in self._open_in(core, checkpoint):
@@ -405,13 +401,6 @@ class Turns:
         """Yields the lines that were answered and aren't in the journal."""
         return iter(())
 
-    def _leave_to_parent(self) -> None:
-        """Leaves the journal to the process from which this one was forked."""
-        if self._journal is not None and not self.is_read_only:
-            self._fail("this process was forked from the one that has the journal")
-            self._is_over = True
-            self._journal.close()
-
     def _release(self) -> None:
         """Frees the store and closes the journal."""
         core, self._core = self._core, None
@@ -442,7 +431,10 @@ def _after_fork() -> None:
     """Makes a store with a journal fail in a forked child: else two processes would append to one journal."""
     for store in _stores:
         store._lock = threading.RLock()
-        store._leave_to_parent()
+        if store._journal is not None and not store.is_read_only:
+            store._fail("this process was forked from the one that has the journal")
+            store._is_over = True
+            store._journal.close()
 
 
 os.register_at_fork(after_in_child=_after_fork)

@@ -17,7 +17,7 @@ from .. import LAST_MOMENT
 TAKES = {
     "clock": "M", "tick": "N", "mkdir": "P", "rmdir": "P", "create": "P", "link": "P Q", "unlink": "P", "rename": "P Q", "undelete": "P",
     "open write": "P", "open read": "T", "write": "H N X", "truncate": "H N", "close": "H", "abandon": "H", "save": "P X", "revert": "P V",
-    "restore": "P M", "policy": "P POL", "default": "P POL", "group make": "G", "group drop": "G", "group add": "G P",
+    "restore": "P M", "note": "X", "policy": "P POL", "default": "P POL", "group make": "G", "group drop": "G", "group add": "G P",
     "group remove": "G P", "mark": "G M U", "unmark": "G M", "clean": "", "read": "TH", "stat": "T", "versions": "A", "list": "A",
     "restorable": "", "due": "", "usage": "", "groups": "", "pass": "N", "history": "", "trim": "",
     "why": "T", "ahead": "M", "handles": "", "gone": "", "removals": "", "answers": "", "story": "P",

@@ -1,2 +1,0 @@
--- names and lines, one after another
-pub mod NamesMore

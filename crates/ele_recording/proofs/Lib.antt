@@ -1,2 +1,0 @@
--- line after line
-mod Heard

@@ -1,5 +1,0 @@
-pub mod Marked
-pub mod Months
-pub mod Shown
-pub mod Spans
-pub mod Kinds
