@@ -133,7 +133,7 @@ def takers(facts: Facts) -> dict[str, tuple[str, ...]]:
 
 
 def replay(tree: Tree, facts: Facts, _: Declared) -> str:
-    body = f'QUESTIONS = frozenset(b"{" ".join(questions(facts))}".split())\n'
+    body = f'QUESTIONS = frozenset(\n    b"{" ".join(questions(facts))}".split()\n)\n'
     return with_region(REPLAY, tree[REPLAY], "the questions", FROM_COMMANDS, body)
 
 
