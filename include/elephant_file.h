@@ -81,7 +81,7 @@ typedef struct elephant_file_options {
     uint32_t no_compaction;        /* 1: no compaction by itself */
     uint32_t no_renewal;           /* 1: no renewal by itself */
     uint32_t wait;                 /* how many milliseconds to wait for another opener */
-    const elephant_limits *limits; /* of a new store; NULL: the largest. A renewal by itself goes by them, so give them at each opening */
+    const elephant_limits *limits; /* of a new store; NULL: the largest. The file has those of the store that it keeps */
 } elephant_file_options;
 
 /* Opens the store that a file keeps. If the file doesn't exist, or is empty, makes it with a fresh store. Handles that were open at the
@@ -110,7 +110,8 @@ int32_t elephant_file_rollback(elephant_file *f);
 int32_t elephant_file_sync(elephant_file *f);
 
 /* Writes the store as it is now into PATH.elephant-new, of the same mode and owner, syncs it, and renames it over the file. It commits too.
- * If it fails, the file is as before; only if the very last step fails, the sync of the folder, the new one is there and STUCK.
+ * If it fails, the file is as before; only if the very last step fails, the sync of the folder, the new one is there and STUCK. It takes as
+ * long as to write all that is held.
  * A commit and an opening do this by themselves when the file has more than 1 MiB and twice the bytes that it had when it was made. If
  * that fails, info.tidied has the code, and the commit or the opening has succeeded all the same. READ_ONLY, LOST, SYSTEM, NO_MEMORY. */
 int32_t elephant_file_compact(elephant_file *f);
@@ -120,6 +121,11 @@ int32_t elephant_file_compact(elephant_file *f);
  * held. Then info.renewals is higher than before: numbers that you keep are wrong, and elephant_file_store returns another handle.
  * HANDLES_OPEN, READ_ONLY, LOST, SYSTEM, NO_MEMORY. */
 int32_t elephant_file_renew(elephant_file *f);
+
+/* Does what a commit does by itself, if that is worth it: renews and compacts. Call it when your program has time, and open the file with
+ * no_compaction and no_renewal: then no commit takes longer for them. What isn't worth it takes no time. It returns what info.tidied
+ * has then. READ_ONLY, STUCK, and those of the two calls above. */
+int32_t elephant_file_tidy(elephant_file *f);
 
 /* What is known of an open file. */
 typedef struct elephant_file_info {

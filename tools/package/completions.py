@@ -11,7 +11,10 @@ from gate.building import ROOT
 MANUAL = ROOT / "docs" / "elephant.1"
 PACKAGE = ROOT / "clients" / "python" / "src"
 # The section of the manual for each word of the program.
-SECTIONS = {"run": "ELEPHANT RUN", "forecast": "ELEPHANT FORECAST", "storm": "ELEPHANT STORM"}
+SECTIONS = {
+    "run": "ELEPHANT RUN", "forecast": "ELEPHANT FORECAST", "evidence": "ELEPHANT EVIDENCE", "verify": "ELEPHANT VERIFY",
+    "storm": "ELEPHANT STORM",
+}
 # What an option may be given; `files` stands for a path.
 VALUES = {
     "--policy": ["one", "all", "safe:", "landmarks:", "standard"], "--list": ["due", "kept"], "--journal": ["files"], "--past": ["files"],

@@ -113,8 +113,9 @@ def numbers_by_hand(tree: Tree, facts: Facts) -> Iterator[str]:
 
 
 def questions(facts: Facts) -> list[str]:
-    """Returns the first words of the lines that only ask: commands, those of histories, and those of runs that explain."""
-    asking = [it for it in facts.commands if it.asks]
+    """Returns the first words of the lines that only ask: commands, those of histories, and those of runs that explain. A note changes no
+    row either, but a journal keeps it."""
+    asking = [it for it in facts.commands if it.asks and it.first() != "note"]
     asking.sort(key=lambda it: (it.explains, it.topic == "History"))
     found = list(dict.fromkeys(it.first() for it in asking))
     mixed = [it.words for it in facts.commands if not it.asks and it.first() in found]

@@ -137,8 +137,8 @@ def values(tree: Tree, facts: Facts) -> str:
 
 def store(tree: Tree, facts: Facts) -> str:
     """Returns the file with the limits that a store is opened with."""
-    given = match_in(r"(?s)sys::elephant_limits \{\n(.*?)        \};", tree[STORE])[1]
-    return tree[STORE].replace(given, "".join(f"            {name}: self.limits.{name},\n" for name in facts.most()))
+    given = match_in(r"(?s)\n    sys::elephant_limits \{\n(.*?)    \}\n", tree[STORE])[1]
+    return tree[STORE].replace(given, "".join(f"        {name}: limits.{name},\n" for name in facts.most()))
 
 
 def tested(tree: Tree, facts: Facts) -> str:

@@ -78,7 +78,7 @@ OF_FILES = [
     Planted(python.ANSWERS, "    members: int = 100_000\n    marks: int = 10_000", "    marks: int = 10_000", (python.ANSWERS,)),
     Planted(rust.VALUES, "    /// Marks: at most 10,000.", "    /// Marks: at most 10,001.", (rust.VALUES,)),
     Planted(rust.VALUES, "            marks: 10_000,", "            marks: 10_001,", (rust.VALUES,)),
-    Planted(rust.STORE, "            marks: self.limits.marks,\n", "", (rust.STORE,)),
+    Planted(rust.STORE, "        marks: limits.marks,\n", "", (rust.STORE,)),
     Planted(rust.TESTED, "(Error::IsRoot, 11, ", "(Error::IsRoot, 12, ", (rust.TESTED,)),
     Planted(rust.TESTED, "    (Error::IsRoot, 11, ErrorKind::Other),\n", "", (rust.TESTED,)),
     Planted(rust.TESTED, '    (Limit::Marks, "marks"),\n', "", (rust.TESTED,)),

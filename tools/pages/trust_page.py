@@ -15,13 +15,9 @@ SEEN = re.compile(r"\s*ghost (Value|view|invariant) ")
 SKIPPED = re.compile(r"\s*(//|--|#\[|(pub )?use |ghost use |$)")
 KINDS = ("types", "contracts", "whole")
 NO_CLAUSE = "No public clause cites this module"
-# The same in other words: what a module is about, public clauses don't see.
-SEES_NONE = re.compile(r"Public clauses see no \w+\.")
 # The parts of the page for those who call the core.
 HEADLINE, CORE = "The headline", "The core"
 NO_READER = "No public clause that a reader of the core needs cites this module"
-# Modules that say so and are read for something else, which the page lists.
-FOR_OTHERS = {"ele_model/specs/Neighbours"}
 LEFT_OUT = "- The clauses of "
 UNUSED = "The contracts of the last row use none of these words"
 
@@ -207,9 +203,8 @@ class Page:
         of_all = {name for kind, name in self.needed_of(self.repository.crates) if kind == "specs"}
         for (crate, module), text in sorted(self.repository.modules.items()):
             name = f"{crate}/specs/{module}"
-            has_none = NO_CLAUSE in text.head or SEES_NONE.search(text.head)
-            says = NO_CLAUSE if has_none else NO_READER if NO_READER in text.head else ""
-            if says == NO_CLAUSE and name in of_all or says == NO_READER and name in of_readers - FOR_OTHERS:
+            says = NO_CLAUSE if NO_CLAUSE in text.head else NO_READER if NO_READER in text.head else ""
+            if says == NO_CLAUSE and name in of_all or says == NO_READER and name in of_readers:
                 yield f"{name} says \"{says}\", and one does"
             elif says != NO_CLAUSE and name not in of_all:
                 yield f"{name} doesn't say \"{NO_CLAUSE}\", and none does"

@@ -11,6 +11,8 @@ from typing import NamedTuple
 LAST = 253402300799
 WORDS = {"day": 86_400, "hour": 3600, "minute": 60, "second": 1}
 COLUMNS = 187
+# A curve shows at most so many bytes.
+MOST_BYTES = 2**64 - 1
 TOO_LATE = "not before the year 10000"
 # A span of so many seconds has ticks that are so many seconds apart, or else on Mondays, or so many months apart.
 SECONDS = [
@@ -339,7 +341,7 @@ def summary(title: str, plans: Sequence[Plan], asked: Sequence[int], sizes: Sequ
     page = Page(first, last, top, top + 254 + 22 * (len(rungs) + 1), 0, min(len(asked), 3))
     moments = [first + (last - first) * column // (COLUMNS - 1) for column in range(COLUMNS)]
     kept = [[it.stay(moment) for moment in moments] for it in plans]
-    amounts = [[len(them) if sizes is None else sum(sizes[it - 1] for it in them) for them in of] for of in kept]
+    amounts = [[len(them) if sizes is None else min(MOST_BYTES, sum(sizes[it - 1] for it in them)) for them in of] for of in kept]
     highest = max(1, *(amount for of in amounts for amount in of))
     found = [head(page, title), f"<text x='20' y='37' font-size='11'>{len(versions)} versions, and what stays over time</text>\n"]
     for place, plan in enumerate(plans):
@@ -358,5 +360,5 @@ def summary(title: str, plans: Sequence[Plan], asked: Sequence[int], sizes: Sequ
 
 def drawing(title: str, plans: Sequence[Plan], asked: Sequence[int], sizes: Sequence[int] | None = None) -> str:
     """Returns the drawing of some policies."""
-    is_single = len(plans) == 1 and len(plans[0].versions) <= 200
+    is_single = len(plans) == 1 and len(plans[0].versions) <= 200 and sizes is None
     return rows(title, plans[0], asked) if is_single else summary(title, plans, asked, sizes)

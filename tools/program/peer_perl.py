@@ -1,4 +1,4 @@
-"""sanoid's own function that removes snapshots, run by perl over lists of snapshots."""
+"""sanoid's and btrbk's own functions that choose snapshots, run by perl over lists of snapshots."""
 
 import json
 import re
@@ -6,7 +6,7 @@ import subprocess
 from collections.abc import Sequence
 from pathlib import Path
 
-from program.peers import Part, Row
+from program.peers import WEEKDAYS, Part, Row, Schedule
 
 SANOID = r"""
 use strict; use warnings; use JSON::PP;
@@ -39,6 +39,23 @@ while (my $line = <STDIN>) {
     print "END\n";
 }
 """
+BTRBK = """
+use strict; use warnings; use JSON::PP; use POSIX qw(tzset); use Time::Local qw(timegm_nocheck);
+my %day_of_week_map = ( sunday => 0, monday => 1, tuesday => 2, wednesday => 3, thursday => 4, friday => 5, saturday => 6 );
+our (@tm_now, $do_trace);
+sub DEBUG {}
+sub TRACE {}
+sub timestamp { return '' }
+FUNCTIONS
+while (my $line = <STDIN>) {
+    my $case = decode_json($line);
+    $ENV{TZ} = $case->{zone}; tzset();
+    @tm_now = localtime($case->{now});
+    my @rows = map { +{ btrbk_date => [ $_, 0, 1 ] } } @{$case->{rows}};
+    schedule(schedule => \\@rows, preserve => $case->{preserve});
+    print encode_json([ map { $_->{preserve} } @rows ]), "\\n";
+}
+"""
 KINDS = ["frequently", "hourly", "daily", "weekly", "monthly", "yearly"]
 
 
@@ -69,3 +86,18 @@ def sanoid_removes(program: Path, cases: Sequence[tuple[Sequence[Part], int, Seq
         elif found := re.fullmatch(r"INFO: pruning p@(.*) \.\.\. ", line):
             removed.add(found[1])
     return [[row.label.removeprefix("pool/data@") in gone for row in rows] for gone, (_, _, rows) in zip(all_removed, cases)]
+
+
+def btrbk_reasons(program: Path, cases: Sequence[tuple[Schedule, str, int, Sequence[Row]]]) -> list[list[str | None]]:
+    """Returns why btrbk's own function keeps each row of each case, in its words."""
+    source = program.read_text()
+    names = ["cmp_date", "schedule", "_format_preserve_delta", "format_preserve_matrix"]
+    text = BTRBK.replace("FUNCTIONS", "\n".join(function_of(source, it) for it in names))
+    lines = []
+    for rule, zone, now, rows in cases:
+        counts = {letter: "all" if number < 0 else number for letter, number in rule.counts.items()}
+        least = {"min_q": rule.least} if rule.least in ("all", "latest") else {"min_n": rule.least[:-1], "min_q": rule.least[-1:]}
+        preserve = {"dow": WEEKDAYS[rule.weekday], "hod": rule.hour, **counts, **(least if rule.least else {})}
+        lines.append(json.dumps({"zone": zone, "now": now, "preserve": preserve, "rows": [row.moment for row in rows]}))
+    told = subprocess.run(["perl", "-e", text], input="".join(f"{it}\n" for it in lines), capture_output=True, encoding="utf-8", check=True)
+    return [json.loads(line) for line in told.stdout.splitlines()]

@@ -1,4 +1,4 @@
-"""The rules of restic, borg, snapper and sanoid, as crates/ele_peer_rules/specs say them, and random lists and rules of each."""
+"""The rules of restic, borg, btrbk, snapper and sanoid, as ele_peer_rules and ele_btrbk_rules say them, and random lists and rules."""
 
 import random
 import re
@@ -18,6 +18,10 @@ BORG = SPANS[1:]
 SNAPPER = ["hourly", "daily", "weekly", "monthly", "yearly"]
 # sanoid's kinds, and the seconds of their periods. `frequently` is each quarter of an hour.
 PERIODS = {"minutely": 900, "hourly": 3600, "daily": 86400, "weekly": 604800, "monthly": 2678400, "yearly": 31557600}
+# btrbk's letters, and its days of the week.
+UNITS = {"h": "hourly", "d": "daily", "w": "weekly", "m": "monthly", "y": "yearly"}
+WEEKDAYS = ["sunday", "monday", "tuesday", "wednesday", "thursday", "friday", "saturday"]
+EPOCH = datetime(1970, 1, 1, tzinfo=timezone.utc)
 BORG_UNITS = {"H": 3600, "d": 86400, "w": 604800, "m": 2678400, "y": 31536000}
 
 
@@ -93,6 +97,75 @@ def snapper_kept(parts: Sequence[Part], now: int, rows: Sequence[Row]) -> list[R
         for number, at in enumerate(sorted(firsts.values(), reverse=True)[: part.number], 1):
             marks[at] = marks[at] or Reason(part.span, "count", number)
     return marks
+
+
+class Schedule(NamedTuple):
+    """A rule of btrbk: until how many spans ago it keeps the first row of each (-1 for all), and when days and weeks begin."""
+
+    counts: dict[str, int]
+    least: str = ""
+    weekday: int = 0
+    hour: int = 0
+
+    @property
+    def words(self) -> str:
+        items = [f"{'*' if number < 0 else number}{letter}" for letter, number in self.counts.items()]
+        words = [f"snapshot_preserve={items[0]}", *items[1:]] if items else []
+        words += [f"snapshot_preserve_min={self.least}"] * bool(self.least)
+        words += [f"preserve_day_of_week={WEEKDAYS[self.weekday]}"] * bool(self.weekday)
+        return ",".join([*words, *[f"preserve_hour_of_day={self.hour}"] * bool(self.hour)])
+
+    def spans(self, row: Row) -> dict[str, int]:
+        """Returns the number of each span in which a row lies: a day begins at the hour, and a month at its first day of the week."""
+        clock = row.clock
+        hour = int((clock.replace(tzinfo=timezone.utc) - EPOCH).total_seconds()) // 3600
+        day = (hour + 24 - self.hour) // 24
+        into = (day + 10 - self.weekday) % 7
+        month = 12 * (clock.year - 1970) + clock.month - 1 - (clock.day <= into)
+        return {"h": hour, "d": day, "w": (day + 10 - self.weekday) // 7, "m": month, "y": month // 12}
+
+    def ago(self, now: Row, row: Row) -> dict[str, int]:
+        """Returns how many spans ago a row lies in each. Months and years are counted from those of the calendar."""
+        clock = now.clock
+        month = 12 * (clock.year - 1970) + clock.month - 1
+        there = {**self.spans(now), "m": month, "y": month // 12}
+        return {letter: there[letter] - number for letter, number in self.spans(row).items()}
+
+
+def btrbk_kept(rule: Schedule, now: int, rows: Sequence[Row]) -> list[Reason | None]:
+    """Returns what keeps each row in btrbk, at a moment that the clock of the newest row shows."""
+    at = rows[-1]._replace(moment=now)
+    begun: dict[str, int] = {}
+    marks: list[Reason | None] = []
+    for place, row in enumerate(rows):
+        spans, ago = rule.spans(row), rule.ago(at, row)
+        mark = least_of(rule.least, ago, place + 1 == len(rows))
+        for letter, span in UNITS.items():
+            if begun.get(letter) == spans[letter]:
+                break
+            begun[letter] = spans[letter]
+            if rule.counts.get(letter, 0) < 0 or 0 < rule.counts.get(letter, 0) >= ago[letter]:
+                mark = Reason(span, "count", ago[letter])
+        marks.append(mark)
+    return marks
+
+
+def least_of(least: str, ago: dict[str, int], newest: bool) -> Reason | None:
+    """Returns why `snapshot_preserve_min` keeps a row, if it does."""
+    if least == "all":
+        return Reason("last", "within", ago["h"])
+    if least == "latest" and newest:
+        return Reason("last", "count", 1)
+    if least in ("", "latest") or ago[least[-1]] > int(least[:-1]):
+        return None
+    return Reason(UNITS[least[-1]], "within", ago[least[-1]])
+
+
+def btrbk_rule(chance: random.Random) -> Schedule:
+    letters = chance.sample(list(UNITS), chance.randrange(0, 5))
+    counts = {it: chance.choice([-1, 0, 1, 2, 3, 5, 14]) for it in letters}
+    least = chance.choice(["", "all", "latest", *[f"{chance.randrange(1, 9)}{chance.choice(list(UNITS))}"] * 4])
+    return Schedule(counts, least or ("" if counts else "latest"), chance.choice([0, 0, 1, 3, 6]), chance.choice([0, 0, 1, 5, 23]))
 
 
 def sanoid_kind(label: str) -> str | None:

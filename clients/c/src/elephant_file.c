@@ -27,12 +27,15 @@ static const char FILLING[] = "not written yet ";
 enum { FILLED = sizeof FILLING - 1 };
 /* Where a journal has the length of its checkpoint, in eight bytes, the highest first, and where the checkpoint begins. */
 enum { LENGTH_AT = 17, CHECKPOINT_AT = 25 };
+/* The last bytes of a checkpoint: its length and its sum. Before them it has the limits. */
+enum { AFTER_LIMITS = 12 };
 /* What elephant_journal_open says of the bytes after the last whole change. */
 enum { NOTHING_FOLLOWS, CUT_CHANGE, DAMAGE };
 /* A reader may meet a commit that is under way, and looks again. */
 enum { TRIES = 4, PAUSE_MS = 10 };
-/* In thousandths of a limit: the count from which on a renewal is worth a try, and what may be held then. */
-enum { NEARLY_ALL = 900, HALF = 500, ALL = 1000 };
+/* In tenths of a limit: the count from which on a renewal is worth a try, and the part that the renewed store must be below. */
+enum { NEARLY_ALL = 9, HALF = 5, ALL = 10 };
+/* The counts that have a limit, in the order of a checkpoint. Events aren't among them: a renewal would drop the history. */
 enum { COUNTS = 8 };
 
 /* TORN: a failed append may have left bytes, which are cut off before the next one. */
@@ -41,7 +44,7 @@ enum condition { SOUND, TORN, STUCK };
 struct elephant_file {
     elephant *store;
     elephant_file_options options;
-    elephant_limits limits;
+    uint64_t limits[COUNTS];   /* of the store in the file */
     elephant_file_info info;
     elephant_file_fault fault;
     char *path;                /* absolute, without links */
@@ -53,7 +56,8 @@ struct elephant_file {
     bool has_unsynced;
     uint64_t placed;           /* how many files took this one's place */
     uint64_t compact_from;     /* the length from which on a compaction by itself is tried again */
-    uint64_t renewal_wait;     /* in commits, until a renewal by itself is tried again */
+    uint64_t renew_from[COUNTS];  /* the counts from which on a renewal by itself is tried */
+    uint64_t waited, wait;     /* in commits: since a try that renewed nothing, and until the next one; 0: there was none */
     unsigned char piece[PIECE];
 };
 
@@ -140,6 +144,12 @@ static int64_t read_all(int file, unsigned char *bytes, uint64_t length) {
         place += (uint64_t)had;
     }
     return (int64_t)place;
+}
+
+/* Frees the lock at once. To close the file doesn't, while a child of another thread that is about to run a program has it too. */
+static void let_go(int file) {
+    flock(file, LOCK_UN);
+    close(file);
 }
 
 static void pause_for(uint32_t milliseconds) {
@@ -291,6 +301,21 @@ static uint64_t start_of(const unsigned char *bytes) {
     return CHECKPOINT_AT + length;
 }
 
+/* Returns where the number of a checkpoint begins that ends there. A number has seven bits in each byte, the lowest first, and 128 is added
+ * to all bytes but the last one. */
+static uint64_t number_before(const unsigned char *bytes, uint64_t end, uint64_t *number) {
+    uint64_t at = end - 1;
+    *number = bytes[at];
+    while (bytes[at - 1] >= 128) *number = *number << 7 | (bytes[--at] & 127);
+    return at;
+}
+
+/* Takes the limits of the store from the checkpoint that a file begins with, which the library has read. */
+static void take_limits(elephant_file *f, const unsigned char *bytes) {
+    uint64_t end = start_of(bytes) - AFTER_LIMITS;
+    for (int at = COUNTS; at--;) end = number_before(bytes, end, &f->limits[at]);
+}
+
 /* Opens the store of these bytes. *rest: what follows the whole changes. Damage is a cut change if the library, asked for the bytes
  * before the first gap, finds that they end within the change. */
 static int32_t open_store(const elephant_file *f, elephant *store, const unsigned char *bytes, uint64_t length, uint64_t *whole,
@@ -344,6 +369,7 @@ static int32_t take_in(elephant_file *f, const unsigned char *bytes, uint64_t le
     f->size = length;
     f->info.length = whole;
     f->info.start = start_of(bytes);
+    take_limits(f, bytes);
     f->info.cut = written_end(bytes, whole, length) - whole;
     if (rest == DAMAGE) {
         if (!f->options.repair) return damage_at(f, whole);
@@ -428,7 +454,7 @@ static int32_t want_changeable(elephant_file *f) {
     return f->condition == STUCK ? ELEPHANT_FILE_STUCK : ELEPHANT_OK;
 }
 
-static void tidy(elephant_file *f);
+static void tidy_by_itself(elephant_file *f);
 
 int32_t elephant_file_commit(elephant_file *f) {
     uint64_t length = 0;
@@ -439,7 +465,7 @@ int32_t elephant_file_commit(elephant_file *f) {
     if (!code && f->condition == TORN) code = cut_off(f);
     if (!code) code = take_ahead(f, length);
     if (!code) code = append(f, length);
-    if (!code) tidy(f);
+    if (!code) tidy_by_itself(f);
     return code;
 }
 
@@ -474,7 +500,7 @@ static int32_t dress(elephant_file *f, int file, struct stat *has) {
 }
 
 static void put_in_place(elephant_file *f, int file, const struct stat *identity, uint64_t length) {
-    close(f->file);
+    let_go(f->file);
     f->file = file;
     f->identity = *identity;
     f->size = f->info.length = f->info.start = length;
@@ -538,34 +564,50 @@ static void counted(const elephant *store, uint64_t counts[COUNTS]) {
     memcpy(counts, found, sizeof found);
 }
 
-static void limited(const elephant_file *f, uint64_t limits[COUNTS]) {
-    const elephant_limits *it = &f->limits;
-    const uint64_t found[COUNTS] = {it->files, it->directories, it->names, it->versions, it->handles, it->groups, it->members, it->marks};
-    memcpy(limits, found, sizeof found);
+/* The count from which on so many may soon be all that may be made. */
+static uint64_t nearly_all(uint64_t limit) {
+    return limit ? (limit * NEARLY_ALL + ALL - 1) / ALL : UINT64_MAX;
 }
 
 /* Whether each count that is nearly at its limit is below half of it in the renewed store. */
 static bool is_worth(const elephant_file *f, const elephant *renewed) {
-    uint64_t had[COUNTS], has[COUNTS], most[COUNTS];
+    uint64_t had[COUNTS], has[COUNTS];
     counted(f->store, had);
     counted(renewed, has);
-    limited(f, most);
     for (int at = 0; at < COUNTS; at++) {
-        if (most[at] && had[at] * ALL >= most[at] * NEARLY_ALL && has[at] * ALL >= most[at] * HALF) return false;
+        if (had[at] >= nearly_all(f->limits[at]) && has[at] * ALL >= f->limits[at] * HALF) return false;
     }
     return true;
 }
 
-/* Returns the limit of the smallest count that is nearly at it, or 0. */
-static uint64_t nearly_reached(const elephant_file *f) {
-    uint64_t had[COUNTS], most[COUNTS], least = 0;
+/* Whether a renewal is to be tried now. It copies the whole store. So if it isn't worth it, or is refused, it is tried again when half of
+ * what could still be made is used up, and after one commit, two, four and so on. */
+static bool wants_renewal(elephant_file *f) {
+    uint64_t had[COUNTS];
+    bool is_near = false;
     counted(f->store, had);
-    limited(f, most);
     for (int at = 0; at < COUNTS; at++) {
-        if (!most[at] || had[at] * ALL < most[at] * NEARLY_ALL) continue;
-        if (!least || most[at] < least) least = most[at];
+        if (had[at] >= f->renew_from[at]) return true;
+        is_near |= had[at] >= nearly_all(f->limits[at]);
     }
-    return least;
+    return is_near && f->wait && ++f->waited >= f->wait;
+}
+
+/* A renewal is tried as soon as a count is nearly at its limit. */
+static void expect_renewal(elephant_file *f) {
+    for (int at = 0; at < COUNTS; at++) f->renew_from[at] = nearly_all(f->limits[at]);
+    f->waited = f->wait = 0;
+}
+
+static void put_off_renewal(elephant_file *f) {
+    uint64_t had[COUNTS];
+    counted(f->store, had);
+    for (int at = 0; at < COUNTS; at++) {
+        const uint64_t most = f->limits[at];
+        if (had[at] >= f->renew_from[at]) f->renew_from[at] = had[at] < most ? most - (most - had[at]) / 2 : UINT64_MAX;
+    }
+    f->waited = 0;
+    f->wait = f->wait ? 2 * f->wait : 1;
 }
 
 /* Opens a second handle with the store, its numbers renewed, and begins its journal, whose bytes are its text. */
@@ -584,45 +626,64 @@ static int32_t open_renewed(const elephant_file *f, elephant *renewed, uint64_t 
     return code;
 }
 
-/* If asked, only if it is worth it: *is_done says whether it was. */
-static int32_t renew(elephant_file *f, bool if_worth, bool *is_done) {
+/* Puts the renewed store in place of this one; if it says so, only if that is worth it. */
+static int32_t renew(elephant_file *f, bool if_worth) {
     const uint64_t placed = f->placed;
     uint64_t length;
     elephant *renewed;
     int32_t code;
-    *is_done = false;
     elephant_new(&renewed);
     if (!renewed) return ELEPHANT_NO_MEMORY;
     code = open_renewed(f, renewed, &length);
     if (!code && (!if_worth || is_worth(f, renewed))) code = replace(f, renewed, length);
-    *is_done = f->placed != placed;
-    if (*is_done) f->info.renewals++;
-    elephant_delete(*is_done ? f->store : renewed);
-    if (*is_done) f->store = renewed;
+    if (f->placed == placed) {
+        elephant_delete(renewed);
+        if (if_worth) put_off_renewal(f);
+        return code;
+    }
+    elephant_delete(f->store);
+    f->store = renewed;
+    f->info.renewals++;
+    expect_renewal(f);
     return code;
 }
 
 int32_t elephant_file_renew(elephant_file *f) {
-    bool is_done;
     clear_fault(f);
-    return f->options.read_only ? ELEPHANT_FILE_READ_ONLY : renew(f, false, &is_done);
+    return f->options.read_only ? ELEPHANT_FILE_READ_ONLY : renew(f, false);
 }
 
-/* What a commit and an opening do by themselves. What is refused is tried again later, and not at each commit, since it copies the whole
- * store. */
-static void tidy(elephant_file *f) {
-    uint64_t reached = 0;
-    bool is_done = false;
-    if (f->renewal_wait) f->renewal_wait--;
-    else if (!f->options.no_renewal) reached = nearly_reached(f);
-    if (reached) {
-        f->info.tidied = renew(f, true, &is_done);
-        if (!is_done) f->renewal_wait = reached / 100;
-    }
-    if (f->options.no_compaction || f->condition != SOUND || f->info.length <= LONG) return;
-    if (f->info.length <= 2 * f->info.start || f->info.length < f->compact_from) return;
-    f->info.tidied = compact(f);
-    f->compact_from = f->info.tidied ? f->info.length + f->info.start + LONG : 0;
+/* ---- By itself ---- */
+
+static bool wants_compaction(const elephant_file *f) {
+    return f->condition == SOUND && f->info.length > LONG && f->info.length > 2 * f->info.start && f->info.length >= f->compact_from;
+}
+
+static int32_t compact_long(elephant_file *f) {
+    const int32_t code = compact(f);
+    f->compact_from = code ? f->info.length + f->info.start + LONG : 0;
+    return code;
+}
+
+/* Renews and compacts, if that is worth it. What is refused is tried again later, and not at each commit. */
+static int32_t tidy(elephant_file *f, bool renews, bool compacts) {
+    int32_t renewed = ELEPHANT_OK, compacted = ELEPHANT_OK;
+    const bool is_renewal = renews && wants_renewal(f);
+    bool is_compaction;
+    if (is_renewal) renewed = renew(f, true);
+    is_compaction = compacts && wants_compaction(f);
+    if (is_compaction) compacted = compact_long(f);
+    if (is_renewal || is_compaction) f->info.tidied = renewed ? renewed : compacted;
+    return renewed ? renewed : compacted;
+}
+
+static void tidy_by_itself(elephant_file *f) {
+    tidy(f, !f->options.no_renewal, !f->options.no_compaction);
+}
+
+int32_t elephant_file_tidy(elephant_file *f) {
+    const int32_t code = want_changeable(f);
+    return code ? code : tidy(f, true, true);
 }
 
 /* ---- Opening and closing ---- */
@@ -671,17 +732,21 @@ static int32_t find(elephant_file *f, const char *path) {
         if (!code && !stat(f->path, &named) && named.st_ino == f->identity.st_ino && named.st_dev == f->identity.st_dev) return ELEPHANT_OK;
         if (code && f->fault.system != ENOENT) return code;
         clear_fault(f);
-        close(f->file);
+        let_go(f->file);
         f->file = -1;
     }
 }
 
+/* The largest limits, as elephant.h has them. */
+static const elephant_limits largest = {1000000000, 100000, 10000, 200000, 1000000, 1000000, 1000, 100000, 10000};
+
 /* Begins a fresh store in the empty file that this holds the lock of. */
 static int32_t begin(elephant_file *f) {
+    const elephant_limits *it = f->options.limits ? f->options.limits : &largest;
+    const uint64_t found[COUNTS] = {it->files, it->directories, it->names, it->versions, it->handles, it->groups, it->members, it->marks};
     uint64_t length;
-    int32_t code;
-    if (f->options.limits) code = elephant_open(f->store, f->options.limits, f->options.history);
-    else code = elephant_open_largest(f->store, f->options.history);
+    int32_t code = elephant_open(f->store, it, f->options.history);
+    memcpy(f->limits, found, sizeof found);
     if (!code) code = elephant_journal_begin(f->store, &length);
     if (!code) code = replace(f, f->store, length);
     return code;
@@ -709,7 +774,7 @@ static int32_t open_all(elephant_file *f, const char *path) {
 }
 
 static void release(elephant_file *f) {
-    if (f->file >= 0) close(f->file);
+    if (f->file >= 0) let_go(f->file);
     if (f->store) elephant_delete(f->store);
     free(f->path);
     free(f->spare);
@@ -717,8 +782,6 @@ static void release(elephant_file *f) {
 }
 
 int32_t elephant_file_open(const char *path, const elephant_file_options *options, elephant_file **out, elephant_file_fault *fault) {
-    /* The largest limits, as elephant.h has them. */
-    static const elephant_limits largest = {1000000000, 100000, 10000, 200000, 1000000, 1000000, 1000, 100000, 10000};
     elephant_file *f = calloc(1, sizeof *f);
     int32_t code;
     *out = NULL;
@@ -727,15 +790,15 @@ int32_t elephant_file_open(const char *path, const elephant_file_options *option
     f->file = -1;
     f->fault = *fault;
     if (options) f->options = *options;
-    f->limits = f->options.limits ? *f->options.limits : largest;
     code = open_all(f, path);
     *fault = f->fault;
     if (code) {
         release(f);
         return code;
     }
+    expect_renewal(f);
     /* A kill may have come before the last commit did so. */
-    if (!f->options.read_only && f->condition == SOUND) tidy(f);
+    if (!f->options.read_only && f->condition == SOUND) tidy_by_itself(f);
     *out = f;
     return ELEPHANT_OK;
 }

@@ -233,6 +233,23 @@ static void a_second_opener_waits(void) {
     WANT(waitpid(child, NULL, 0) == child);
 }
 
+/* A child that has the file too, as one that is about to run a program, doesn't keep the lock. */
+static void a_closed_file_is_free_at_once(void) {
+    elephant_file *f = opened(in_folder(path, "free"), NULL);
+    pid_t child = fork();
+    if (!child) {
+        nanosleep(&(struct timespec){60, 0}, NULL);
+        _exit(0);
+    }
+    WANT(child > 0);
+    commit(f, 1);
+    elephant_file_close(f);
+    f = opened(path, NULL);
+    WANT(number_in(f) == 1);
+    elephant_file_close(f);
+    WANT(!kill(child, SIGKILL) && waitpid(child, NULL, 0) == child);
+}
+
 static void a_reader_changes_nothing(void) {
     const elephant_file_options look = {.read_only = 1};
     static struct image before;
@@ -245,6 +262,7 @@ static void a_reader_changes_nothing(void) {
     CODE(ELEPHANT_FILE_READ_ONLY, elephant_file_commit(f));
     CODE(ELEPHANT_FILE_READ_ONLY, elephant_file_compact(f));
     CODE(ELEPHANT_FILE_READ_ONLY, elephant_file_renew(f));
+    CODE(ELEPHANT_FILE_READ_ONLY, elephant_file_tidy(f));
     OK(elephant_file_sync(f));
     want_holds(path, &before, 0, before.length);
     commit(writer, 3);
@@ -477,6 +495,24 @@ static void a_lost_file_is_told(void) {
     want_has(path, 1);
 }
 
+/* ---- Notes ---- */
+
+static void a_note_is_in_the_history(void) {
+    static const char wanted[] = "ok history 1 1\n- note 7469636b65742037\n";
+    const elephant_file_options with_history = {.history = 1};
+    elephant_file *f = opened(in_folder(path, "noted"), NULL);
+    char told[sizeof wanted] = "";
+    uint64_t length, copied;
+    OK(elephant_note(elephant_file_store(f), TEXT("ticket 7")));
+    OK(elephant_file_commit(f));
+    elephant_file_close(f);
+    f = opened(path, &with_history);
+    OK(elephant_line(elephant_file_store(f), TEXT("history"), &length));
+    OK(elephant_answer(elephant_file_store(f), 0, told, sizeof told - 1, &copied));
+    WANT(length == strlen(wanted) && !strcmp(told, wanted));
+    elephant_file_close(f);
+}
+
 /* ---- A full disk ---- */
 
 static void limit_files(rlim_t most) {
@@ -635,6 +671,59 @@ static void a_renewal_gives_fresh_numbers(void) {
     elephant_file_close(f);
 }
 
+/* A renewal is refused while a handle is open. It is tried again before the store is full. */
+static void an_open_handle_puts_a_renewal_off(void) {
+    const elephant_file_options options = {.limits = &few};
+    elephant_file *f = opened(in_folder(path, "put off"), &options);
+    uint64_t handle = 0, version;
+    for (unsigned number = 1; number < 18; number++) {
+        change_short(f, number);
+        if (number == 16) OK(elephant_open_read(elephant_file_store(f), TEXT("/f"), ELEPHANT_NOW, 0, &handle));
+        OK(elephant_file_commit(f));
+    }
+    WANT(versions_of(f) == 18 && info_of(f).renewals == 0 && info_of(f).tidied == ELEPHANT_HANDLES_OPEN);
+    CODE(ELEPHANT_HANDLES_OPEN, elephant_file_renew(f));
+    change_short(f, 18);
+    OK(elephant_file_commit(f));
+    WANT(versions_of(f) == 19 && info_of(f).renewals == 0);
+    OK(elephant_close_handle(elephant_file_store(f), handle, &version));
+    change_short(f, 19);
+    OK(elephant_file_commit(f));
+    WANT(versions_of(f) == 1 && info_of(f).renewals == 1 && info_of(f).tidied == ELEPHANT_OK && number_in(f) == 19);
+    elephant_file_close(f);
+}
+
+/* With no compaction and no renewal by itself, a program chooses its own moment for them. */
+static void only_a_call_tidies(void) {
+    static unsigned char content[100000];
+    const elephant_file_options options = {.limits = &few, .no_renewal = 1, .no_compaction = 1};
+    elephant_file *f = opened(in_folder(path, "tidied"), &options);
+    uint64_t version;
+    OK(elephant_file_tidy(f));
+    WANT(info_of(f).compactions == 0 && info_of(f).renewals == 0);
+    for (unsigned number = 1; number < 18; number++) {
+        change_short(f, number);
+        OK(elephant_save(elephant_file_store(f), TEXT("/long"), content, number == 1 ? 0 : sizeof content, &version));
+        OK(elephant_pass(elephant_file_store(f), 100, &(uint64_t){0}, &(uint64_t){0}));
+        OK(elephant_file_commit(f));
+        if (versions_of(f) > 17) break;
+    }
+    WANT(info_of(f).compactions == 0 && info_of(f).renewals == 0);
+    OK(elephant_file_tidy(f));
+    WANT(info_of(f).renewals == 1 && info_of(f).compactions == 0 && versions_of(f) == 2);
+    for (unsigned number = 1; number < 13; number++) {
+        OK(elephant_save(elephant_file_store(f), TEXT("/long"), content, sizeof content, &version));
+        OK(elephant_pass(elephant_file_store(f), 100, &(uint64_t){0}, &(uint64_t){0}));
+        OK(elephant_file_commit(f));
+    }
+    WANT(info_of(f).length > 1200000 && info_of(f).compactions == 0);
+    OK(elephant_file_tidy(f));
+    WANT(info_of(f).length < 200000 && info_of(f).compactions == 1 && info_of(f).renewals == 1);
+    OK(elephant_file_tidy(f));
+    WANT(info_of(f).compactions == 1 && info_of(f).renewals == 1);
+    elephant_file_close(f);
+}
+
 static void a_store_goes_on_by_itself(void) {
     const elephant_file_options options = {.limits = &few};
     elephant_file *f = opened(in_folder(path, "goes on"), &options);
@@ -648,17 +737,16 @@ static void a_store_goes_on_by_itself(void) {
     want_has(path, 199);
 }
 
-/* A kill may come between the commit and the renewal. */
+/* A kill may come between the commit and the renewal. The limits are those of the file. */
 static void an_opening_renews_by_itself(void) {
-    elephant_file_options options = {.limits = &few, .no_renewal = 1};
+    const elephant_file_options options = {.limits = &few, .no_renewal = 1};
     elephant_file *f = opened(in_folder(path, "nearly full"), &options);
     for (unsigned number = 1; number < 19; number++) {
         change_short(f, number);
         OK(elephant_file_commit(f));
     }
     elephant_file_close(f);
-    options.no_renewal = 0;
-    f = opened(path, &options);
+    f = opened(path, NULL);
     WANT(versions_of(f) == 1 && info_of(f).renewals == 1 && number_in(f) == 18);
     elephant_file_close(f);
 }
@@ -689,6 +777,7 @@ int main(int count, char **words) {
     the_space_ahead_is_filled();
     no_file_is_refused();
     a_second_opener_waits();
+    a_closed_file_is_free_at_once();
     a_reader_changes_nothing();
     each_cut_leaves_the_whole_changes();
     each_changed_byte_is_damage(&sample.closed);
@@ -700,6 +789,7 @@ int main(int count, char **words) {
     unfilled_space_is_no_damage();
     zeros_in_place_of_a_change_are_damage();
     a_lost_file_is_told();
+    a_note_is_in_the_history();
     a_full_disk_leaves_the_file();
     a_change_is_rolled_back();
     a_compaction_keeps_mode_and_owner();
@@ -707,6 +797,8 @@ int main(int count, char **words) {
     a_long_file_is_compacted(false);
     a_long_file_is_compacted(true);
     a_renewal_gives_fresh_numbers();
+    an_open_handle_puts_a_renewal_off();
+    only_a_call_tidies();
     a_store_goes_on_by_itself();
     an_opening_renews_by_itself();
     a_full_store_is_not_renewed();

@@ -164,7 +164,7 @@ ROWS: dict[type, dict[str, list[Call]]] = {
 }
 # Attributes, and questions that need a history.
 NO_CALLS: dict[type, set[str]] = {
-    Store: {"clock_fault", "is_closed", "is_read_only", "may_remove", "now"}, Session: {"version"}, Reader: set(),
+    Store: {"clock_fault", "is_closed", "is_read_only", "may_remove", "now", "renewed"}, Session: {"version"}, Reader: set(),
 }
 # These may leave a part that docs/EMBED.md names: an empty new file, one more version with the content before, or directories that
 # `parents=True` made.

@@ -23,6 +23,7 @@ from unittest import mock
 import elephant
 from clocks import clock_at
 from elephant import JournalDamaged, JournalError, JournalLocked, KeepOne, Limits, NoMemory, Recovered, Store
+from elephant._policies import LADDER
 from stats import file_stat
 
 # Where no sync waits for a disk.
@@ -132,6 +133,18 @@ class Journals(unittest.TestCase):
         for _ in range(2):
             with self.open() as store:
                 self.assertEqual((state(store), store.recovered, bool(store.recovered)), (before, Recovered(), False))
+
+    def test_a_note_is_there_again_by_a_call_and_by_a_line(self) -> None:
+        with self.open() as store:
+            self.assertEqual(store.line("note 77686f"), "ok done\n")
+            store.note(b"why")
+            self.assertEqual(store.line("note 7"), "bad 32 Syntax\n")
+        self.assertEqual(self.path.read_bytes().count(b" = note "), 2)
+        with self.open(history=True) as store:
+            self.assertEqual(store.history().lines, (f"default / {LADDER.word}", "note 77686f", "note 776879"))
+            self.assertEqual(store.line("note 616761696e"), "ok done\n")
+        with self.open(history=True) as store:
+            self.assertEqual(store.history().lines[1:], ("note 77686f", "note 776879", "note 616761696e"))
 
     def test_a_script_makes_the_same_store(self) -> None:
         """The lines of a journal, without what stands before them, are a script."""

@@ -557,6 +557,13 @@ class Auditing(Case):
             None, {"group": "legal", "at": "2026-11-29T09:00:05Z", "until": "2026-11-29T11:00:00Z"}, None,
         ])
 
+    def test_a_note_is_in_the_history_after_another_mount(self) -> None:
+        self.save(b"f", b"one")
+        self.assertEqual(self.ask("note 77686f"), "ok done\n")
+        self.assertEqual(self.ask("history").splitlines().count("- note 77686f"), 1)
+        self.again()
+        self.assertEqual(self.ask("history").splitlines().count("- note 77686f"), 1)
+
     def test_the_lines_of_an_audit(self) -> None:
         self.save(b"f", b"one", b"two")
         self.ask("policy /f safe:1h")

@@ -45,12 +45,18 @@ impl Store {
         let store = Store::closed(history)?;
         // SAFETY: see `call`.
         store.call(|e| unsafe { sys::elephant_open_checkpoint(e, bytes.as_ptr(), bytes.len(), history.into()) })?;
-        for handle in 1..=store.counts().handles {
-            if store.is_open(handle)? {
-                store.close_handle(handle)?;
+        store.close_what_is_open()?;
+        Ok(store)
+    }
+
+    // Closes each open handle, as the drop of its session or its reader would.
+    pub(crate) fn close_what_is_open(&self) -> Result<(), Error> {
+        for handle in 1..=self.counts().handles {
+            if self.is_open(handle)? {
+                self.close_handle(handle)?;
             }
         }
-        Ok(store)
+        Ok(())
     }
 
     /// Gives directories, files and versions fresh numbers, and counts only what is held, so that a store near its limits can go on.

@@ -183,14 +183,14 @@ impl std::error::Error for Error {}
 
 impl From<Error> for io::Error {
     /// The kind is `NotFound` for a name or version that isn't there, `AlreadyExists` for a taken name,
-    /// `OutOfMemory`, `InvalidInput` for too large a content and for what is no name, path, moment or
-    /// checkpoint, and `Other` for each other error.
+    /// `OutOfMemory`, `InvalidInput` for too large a content and for what is no name, path, moment,
+    /// checkpoint or file of a store, and `Other` for each other error.
     fn from(error: Error) -> io::Error {
         let kind = match error {
             Error::NoEntry | Error::NoVersion | Error::Forgotten { .. } => io::ErrorKind::NotFound,
             Error::Exists => io::ErrorKind::AlreadyExists,
             Error::NoMemory => io::ErrorKind::OutOfMemory,
-            Error::TooBig | Error::BadName | Error::BadPath | Error::BadMoment | Error::BadCheckpoint => {
+            Error::TooBig | Error::BadName | Error::BadPath | Error::BadMoment | Error::BadCheckpoint | Error::BadJournal => {
                 io::ErrorKind::InvalidInput
             }
             _ => io::ErrorKind::Other,

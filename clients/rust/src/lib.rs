@@ -37,6 +37,8 @@ mod audit;
 mod checkpoints;
 mod contents;
 mod error;
+#[cfg(feature = "file")]
+mod file;
 mod names;
 mod path_error;
 mod questions;
@@ -53,6 +55,8 @@ mod types;
 pub use audit::{Answered, Answers, Gone, History, OpenHandle, Removal};
 pub use contents::LARGEST_CONTENT;
 pub use error::{Error, Limit};
+#[cfg(feature = "file")]
+pub use file::{FileError, FileInfo, FileOptions, FileStore, FileSync};
 pub use path_error::PathError;
 pub use reader::Reader;
 pub use session::Session;

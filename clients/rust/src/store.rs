@@ -3,6 +3,7 @@
 use crate::sys;
 use crate::types::Tag;
 use crate::{Error, Limits, Target};
+use std::cell::Cell;
 use std::fmt;
 use std::ptr::{self, NonNull};
 
@@ -51,17 +52,7 @@ impl Options {
     /// [`Error::BadLimits`], [`Error::NoMemory`].
     pub fn open(self) -> Result<Store, Error> {
         let store = Store::closed(self.history)?;
-        let limits = sys::elephant_limits {
-            events: self.limits.events,
-            files: self.limits.files,
-            directories: self.limits.directories,
-            names: self.limits.names,
-            versions: self.limits.versions,
-            handles: self.limits.handles,
-            groups: self.limits.groups,
-            members: self.limits.members,
-            marks: self.limits.marks,
-        };
+        let limits = limits_in_c(&self.limits);
         // SAFETY: see `Store::call`.
         store.call(|e| unsafe { sys::elephant_open(e, &limits, self.history.into()) })?;
         Ok(store)
@@ -95,8 +86,8 @@ impl Options {
 /// is_sync::<elephant::Store>();
 /// ```
 pub struct Store {
-    // The open handle from `elephant_new`.
-    raw: NonNull<sys::elephant>,
+    // The open handle from `elephant_new`. A store in a file may get another one.
+    raw: Cell<NonNull<sys::elephant>>,
     pub(crate) has_history: bool,
 }
 
@@ -114,7 +105,7 @@ impl fmt::Debug for Store {
 impl Drop for Store {
     fn drop(&mut self) {
         // SAFETY: the handle is from `elephant_new`, and only this drop deletes it.
-        unsafe { sys::elephant_delete(self.raw.as_ptr()) }
+        unsafe { sys::elephant_delete(self.raw.get().as_ptr()) }
     }
 }
 
@@ -133,7 +124,18 @@ impl Store {
         // SAFETY: it writes a pointer to `raw`.
         unsafe { sys::elephant_new(&mut raw) };
         let raw = NonNull::new(raw).ok_or(Error::NoMemory)?;
-        Ok(Store { raw, has_history })
+        Ok(Store::of_handle(raw, has_history))
+    }
+
+    // The store of a handle. Its drop deletes the handle.
+    pub(crate) fn of_handle(raw: NonNull<sys::elephant>, has_history: bool) -> Store {
+        Store { raw: Cell::new(raw), has_history }
+    }
+
+    // Puts another open handle in the place of this one, which somebody else has deleted.
+    #[cfg(feature = "file")]
+    pub(crate) fn put_handle(&self, raw: NonNull<sys::elephant>) {
+        self.raw.set(raw);
     }
 
     // Makes one call of the library, and reads its code.
@@ -151,7 +153,7 @@ impl Store {
 
     // Makes one call of the library, and returns its code.
     pub(crate) fn code(&self, made: impl FnOnce(*mut sys::elephant) -> i32) -> i32 {
-        made(self.raw.as_ptr())
+        made(self.raw.get().as_ptr())
     }
 
     // Makes a call that writes one number.
@@ -171,7 +173,7 @@ impl Store {
     fn detail(&self) -> Option<u64> {
         let mut detail = 0;
         // SAFETY: see `call`.
-        let code = unsafe { sys::elephant_detail(self.raw.as_ptr(), &mut detail) };
+        let code = unsafe { sys::elephant_detail(self.raw.get().as_ptr(), &mut detail) };
         (code == sys::ELEPHANT_OK).then_some(detail)
     }
 }
@@ -255,6 +257,21 @@ impl Store {
     pub fn tick(&self, seconds: u64) -> Result<(), Error> {
         // SAFETY: see `call`.
         self.call(|e| unsafe { sys::elephant_tick(e, seconds) })
+    }
+}
+
+// The limits as C has them.
+pub(crate) fn limits_in_c(limits: &Limits) -> sys::elephant_limits {
+    sys::elephant_limits {
+        events: limits.events,
+        files: limits.files,
+        directories: limits.directories,
+        names: limits.names,
+        versions: limits.versions,
+        handles: limits.handles,
+        groups: limits.groups,
+        members: limits.members,
+        marks: limits.marks,
     }
 }
 

@@ -44,7 +44,7 @@ const BARE: [(Error, i32, ErrorKind); 39] = [
     (Error::HandlesOpen, 73, ErrorKind::Other),
     (Error::NoJournal, 74, ErrorKind::Other),
     (Error::HasJournal, 75, ErrorKind::Other),
-    (Error::BadJournal, 76, ErrorKind::Other),
+    (Error::BadJournal, 76, ErrorKind::InvalidInput),
 ];
 const LIMITS: [(Limit, &str); 8] = [
     (Limit::Files, "files"),

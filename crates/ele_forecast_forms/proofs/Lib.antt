@@ -2,5 +2,5 @@
 pub mod Words
 -- moments in equal steps, and what is counted at each
 pub mod Steps
--- joined texts, and what a list is put by
-mod Commas
+-- texts with a comma between each two
+pub mod Commas

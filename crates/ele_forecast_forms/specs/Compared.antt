@@ -1,8 +1,6 @@
 -- Several policies side by side: a line for each version, and one for each moment and policy.
 use Rattle.std.specs.Prelude.{ℕ, ◌-◌, List, [], ◌∷◌, ◌++◌, Option, Some, None, codes, decimal, slice_get}
 use Rattle.std.specs.List.{flat_map, range_with_len}
-use Rattle.ele_policy.specs.PolicyText.{policy_word}
-use Rattle.ele_policy.specs.declared.policy.Policy.{Policy}
 use Rattle.ele_forecast.specs.declared.forecast.Forecast.{Forecast}
 use Rattle.ele_forecast_text.specs.Details.{detail_headings, detail_words}
 use Rattle.ele_forecast_text.specs.Plan.{versions_of}
@@ -15,7 +13,7 @@ use Rattle.ele_forecast_text.specs.declared.staying.Staying.{Staying}
 
 -- a space (32), and the word of the policy
 abbrev pub policy_column : Plan → List ℕ
-policy_column plan = 32 ∷ policy_word plan.policy
+policy_column plan = 32 ∷ plan.word.items
 
 -- the headings of a version's number and its details, and of the policies
 abbrev pub compared_heading : Details → List Plan → List ℕ
@@ -49,17 +47,17 @@ abbrev pub compared_line : Details → List Plan → Forecast → List ℕ
 compared_line details plans told = compared_columns details plans told ++ codes "\n"
 
 -- the line of a moment and a policy
-abbrev pub policy_staying : Details → Policy → Staying → List ℕ
-policy_staying details policy staying =
-    (codes "at " ++ (stamp_of staying.at ++ (codes " " ++ policy_word policy))) ++ kept_text details staying.numbers.items
+abbrev pub policy_staying : Details → List ℕ → Staying → List ℕ
+policy_staying details word staying =
+    (codes "at " ++ (stamp_of staying.at ++ (codes " " ++ word))) ++ kept_text details staying.numbers.items
 
-abbrev pub staying_or_none : Details → Policy → Option Staying → List ℕ
-staying_or_none details policy None = []
-staying_or_none details policy (Some staying) = policy_staying details policy staying
+abbrev pub staying_or_none : Details → List ℕ → Option Staying → List ℕ
+staying_or_none details word None = []
+staying_or_none details word (Some staying) = policy_staying details word staying
 
 -- the line of the moment at that place under the policy of a plan
 abbrev pub plan_staying : Details → ℕ → Plan → List ℕ
-plan_staying details place plan = staying_or_none details plan.policy (slice_get plan.stayings.items place)
+plan_staying details place plan = staying_or_none details plan.word.items (slice_get plan.stayings.items place)
 
 -- the lines of so many moments, one for each policy
 abbrev pub stayings_text : Details → List Plan → ℕ → List ℕ

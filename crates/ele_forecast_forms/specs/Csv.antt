@@ -1,7 +1,6 @@
 -- A forecast as CSV: a heading, and a row for each version. A row ends with a line feed (10), and a comma (44) is between two fields.
 use Rattle.std.specs.Prelude.{ℕ, ◌==◌, List, [], ◌∷◌, ◌++◌, Option, Some, None, codes, decimal, if◌then◌else◌}
 use Rattle.std.specs.List.{flat_map}
-use Rattle.ele_policy.specs.PolicyText.{policy_word}
 use Rattle.ele_policy.specs.declared.policy.Policy.{Policy}
 use Rattle.ele_forecast.specs.declared.forecast.Forecast.{Forecast}
 use Rattle.ele_forecast_text.specs.Details.{size_of}
@@ -25,14 +24,14 @@ abbrev pub moment_field : Option ℕ → List ℕ
 moment_field None = 44 ∷ []
 moment_field (Some moment) = 44 ∷ stamp_of moment
 
--- the headings of a policy's two columns
-abbrev pub policy_headings : Policy → List ℕ
-policy_headings policy = codes ",\"due " ++ (policy_word policy ++ (codes "\",\"why " ++ (policy_word policy ++ codes "\"")))
+-- the headings of a policy's two columns; its word has no quotation mark
+abbrev pub policy_headings : List ℕ → List ℕ
+policy_headings word = codes ",\"due " ++ (word ++ (codes "\",\"why " ++ (word ++ codes "\"")))
 
 abbrev pub heading_fields : Details → List Plan → List ℕ
 heading_fields details plans =
     codes "version" ++ (part_if details.columns.labels (codes ",label") ++ (part_if details.columns.sizes (codes ",bytes")
-    ++ (codes ",closed,ended" ++ flat_map (λ plan. policy_headings plan.policy) plans)))
+    ++ (codes ",closed,ended" ++ flat_map (λ plan. policy_headings plan.word.items) plans)))
 
 abbrev pub heading_row : Details → List Plan → List ℕ
 heading_row details plans = heading_fields details plans ++ codes "\n"

@@ -1,7 +1,6 @@
 -- A forecast as JSON: one object.
 use Rattle.std.specs.Prelude.{ℕ, ◌+◌, ◌/◌, ◌%◌, ◌==◌, ◌||◌, nat_lt, List, [], ◌∷◌, ◌++◌, Option, Some, None, codes, decimal, length, map, if◌then◌else◌}
 use Rattle.std.specs.List.{flat_map, join_with_byte}
-use Rattle.ele_policy.specs.PolicyText.{policy_word}
 use Rattle.ele_policy.specs.declared.policy.Policy.{Policy}
 use Rattle.ele_forecast.specs.declared.forecast.Forecast.{Forecast}
 use Rattle.ele_forecast_text.specs.Details.{bytes_of, size_of}
@@ -33,9 +32,9 @@ abbrev pub moment_or_null : Option ℕ → List ℕ
 moment_or_null None = codes "null"
 moment_or_null (Some moment) = moment_text moment
 
--- the policy of a plan, as the first field of an object
-abbrev pub policy_field : Policy → List ℕ
-policy_field policy = codes "{\"policy\":\"" ++ (policy_word policy ++ codes "\"")
+-- the word of a policy, as the first field of an object; it has no character that a string would escape
+abbrev pub policy_field : List ℕ → List ℕ
+policy_field word = codes "{\"policy\":\"" ++ (word ++ codes "\"")
 
 -- the bytes of the versions of these numbers together, if versions have sizes
 abbrev pub total_field : Details → List ℕ → List ℕ
@@ -51,7 +50,7 @@ staying_text details staying =
 -- a plan: its policy, and the versions that stay at each of the moments
 abbrev pub plan_text : Details → Plan → List ℕ
 plan_text details plan =
-    10 ∷ (policy_field plan.policy ++ (codes ",\"at\":[" ++ (join_with_byte 44 (map (staying_text details) plan.stayings.items) ++ codes "]}")))
+    10 ∷ (policy_field plan.word.items ++ (codes ",\"at\":[" ++ (join_with_byte 44 (map (staying_text details) plan.stayings.items) ++ codes "]}")))
 
 -- when a version becomes due, and why, as the last fields of an object
 abbrev pub end_text : Policy → Option Forecast → List ℕ
@@ -59,13 +58,13 @@ end_text policy None = codes "}"
 end_text policy (Some told) =
     codes ",\"due\":" ++ (moment_or_null told.ripe ++ (codes ",\"why\":\"" ++ (why_text policy told ++ codes "\"}")))
 
--- what a policy makes of a version
-abbrev pub fate_text : Policy → Option Forecast → List ℕ
-fate_text policy told = policy_field policy ++ end_text policy told
+-- what the policy of a plan makes of a version
+abbrev pub fate_text : Plan → Option Forecast → List ℕ
+fate_text plan told = policy_field plan.word.items ++ end_text plan.policy told
 
 -- what each plan says of the version of that number
 abbrev pub fates_text : List Plan → ℕ → List ℕ
-fates_text plans number = join_with_byte 44 (map (λ plan. fate_text plan.policy (forecast_of plan number)) plans)
+fates_text plans number = join_with_byte 44 (map (λ plan. fate_text plan (forecast_of plan number)) plans)
 
 -- the label and the size of a version, if versions have them
 abbrev pub label_field : Details → ℕ → List ℕ

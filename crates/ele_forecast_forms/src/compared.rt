@@ -7,9 +7,7 @@ ghost use Rattle.ele_forecast_text.specs.Stamp.{stamp_or};
 
 use crate::stayings::put_stayings;
 use ele_forecast::Forecast;
-use ele_forecast_text::{
-    Details, Plan, put_details, put_headings, put_policy, stamp_of, versions_of,
-};
+use ele_forecast_text::{Details, Plan, put_details, put_headings, stamp_of, versions_of};
 use ele_moment::{Moment, VersionNo};
 use ele_output::{Printer, put_number, put_word};
 use std::io::Write;
@@ -43,7 +41,7 @@ pub fn put_policies<W: Write>(plans: &[Plan], printer: &mut Printer<'_, W>)
 {
     for plan in plans {
         printer.put(b" ");
-        put_policy(&plan.policy, printer);
+        printer.put(plan.word.as_slice());
     }
 }
 

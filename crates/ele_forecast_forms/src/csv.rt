@@ -2,12 +2,12 @@
 ghost use Rattle.std.specs.Prelude.{◌∷◌, Some};
 ghost use Rattle.ele_output.specs.Prints.{Prints};
 ghost use Rattle.ele_forecast_text.specs.Labels.{name_of};
-ghost use Rattle.ele_forecast_forms.specs.Csv.{csv_text, doubled, fate_fields, heading_fields, heading_row, moment_field, quoted, row_fields, version_row};
+ghost use Rattle.ele_forecast_forms.specs.Csv.{csv_text, doubled, fate_fields, heading_fields, heading_row, moment_field, policy_headings, quoted, row_fields, version_row};
 ghost use Rattle.ele_forecast_forms.specs.Parts.{forecast_of, part_if};
 
 use crate::parts::{put_part, put_size};
 use ele_forecast::Forecast;
-use ele_forecast_text::{Details, Plan, name_of, put_policy, put_reason, stamp_of, versions_of};
+use ele_forecast_text::{Details, Plan, name_of, put_reason, stamp_of, versions_of};
 use ele_moment::{Moment, VersionNo};
 use ele_output::{Printer, put_number};
 use ele_policy::Policy;
@@ -43,12 +43,19 @@ pub fn put_heading_fields<W: Write>(details: &Details, plans: &[Plan], printer: 
     put_part(details.columns.sizes, b",bytes", printer);
     printer.put(b",closed,ended");
     for plan in plans {
-        printer.put(b",\"due ");
-        put_policy(&plan.policy, printer);
-        printer.put(b"\",\"why ");
-        put_policy(&plan.policy, printer);
-        printer.put(b"\"");
+        put_policy_headings(plan.word.as_slice(), printer);
     }
+}
+
+// Puts the headings of the policy of that word.
+fn put_policy_headings<W: Write>(word: &[u8], printer: &mut Printer<'_, W>)
+    ensures { Prints W.contents printer.old printer.new (policy_headings word.now) }
+{
+    printer.put(b",\"due ");
+    printer.put(word);
+    printer.put(b"\",\"why ");
+    printer.put(word);
+    printer.put(b"\"");
 }
 
 // Puts the row of a version.

@@ -2,15 +2,13 @@
 ghost use Rattle.std.specs.Prelude.{Some, decimal, map};
 ghost use Rattle.std.specs.List.{join_with_byte};
 ghost use Rattle.ele_output.specs.Prints.{Prints};
-ghost use Rattle.ele_forecast_forms.specs.Json.{end_text, fates_text, json_text, label_field, members_text, plan_text, policy_field, staying_text, total_field, version_text};
+ghost use Rattle.ele_forecast_forms.specs.Json.{end_text, fate_text, fates_text, json_text, label_field, members_text, plan_text, policy_field, staying_text, total_field, version_text};
 ghost use Rattle.ele_forecast_forms.specs.Parts.{forecast_of};
 
 use crate::json_parts::{put_moment, put_moment_or_null, put_string};
 use crate::parts::put_size;
 use ele_forecast::Forecast;
-use ele_forecast_text::{
-    Details, Plan, Staying, bytes_of, name_of, put_policy, put_reason, versions_of,
-};
+use ele_forecast_text::{Details, Plan, Staying, bytes_of, name_of, put_reason, versions_of};
 use ele_moment::VersionNo;
 use ele_output::{Printer, put_number, put_with_number};
 use ele_policy::Policy;
@@ -56,23 +54,27 @@ fn put_plan<W: Write>(details: &Details, plan: &Plan, printer: &mut Printer<'_, 
     ensures { Prints W.contents printer.old printer.new (plan_text details.now plan.now) }
 {
     printer.put_byte(b'\n');
-    put_policy_field(&plan.policy, printer);
+    put_policy_field(plan.word.as_slice(), printer);
     printer.put(b",\"at\":[");
-    put_stayings(details, plan.stayings.as_slice(), printer);
+    put_at_moments(details, plan.stayings.as_slice(), printer);
     printer.put(b"]}");
 }
 
-// Puts the policy of a plan.
-fn put_policy_field<W: Write>(policy: &Policy, printer: &mut Printer<'_, W>)
-    ensures { Prints W.contents printer.old printer.new (policy_field policy.now) }
+/// Puts the word of a policy as the first field of an object.
+pub fn put_policy_field<W: Write>(word: &[u8], printer: &mut Printer<'_, W>)
+    ensures { Prints W.contents printer.old printer.new (policy_field word.now) }
 {
     printer.put(b"{\"policy\":\"");
-    put_policy(policy, printer);
+    printer.put(word);
     printer.put(b"\"");
 }
 
-// Puts the versions that stay at each of some moments, with a comma between each two.
-fn put_stayings<W: Write>(details: &Details, stayings: &[Staying], printer: &mut Printer<'_, W>)
+/// Puts versions at each of some moments, as those that stay, with a comma between each two.
+pub fn put_at_moments<W: Write>(
+    details: &Details,
+    stayings: &[Staying],
+    printer: &mut Printer<'_, W>,
+)
     ensures { Prints W.contents printer.old printer.new
         (join_with_byte 44 (map (staying_text details.now) stayings.now)) }
 {
@@ -190,13 +192,20 @@ fn put_fates<W: Write>(plans: &[Plan], number: VersionNo, printer: &mut Printer<
     let Some((first, rest)) = plans.split_first() else {
         return;
     };
-    put_policy_field(&first.policy, printer);
-    put_end(first, number, printer);
+    put_fate(first, number, printer);
     for plan in rest {
         printer.put_byte(b',');
-        put_policy_field(&plan.policy, printer);
-        put_end(plan, number, printer);
+        put_fate(plan, number, printer);
     }
+}
+
+// Puts what a plan says of the version of that number.
+fn put_fate<W: Write>(plan: &Plan, number: VersionNo, printer: &mut Printer<'_, W>)
+    ensures { Prints W.contents printer.old printer.new
+        (fate_text plan.now (forecast_of plan.now number)) }
+{
+    put_policy_field(plan.word.as_slice(), printer);
+    put_end(plan, number, printer);
 }
 
 // Puts when the version of that number becomes due, and why.

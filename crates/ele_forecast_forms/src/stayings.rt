@@ -5,9 +5,8 @@ ghost use Rattle.std.specs.List.{flat_map};
 ghost use Rattle.ele_output.specs.Prints.{Prints};
 ghost use Rattle.ele_forecast_forms.specs.Compared.{plan_staying, policy_staying, stayings_text};
 
-use ele_forecast_text::{Details, Plan, Staying, put_kept, put_policy, stamp_of};
+use ele_forecast_text::{Details, Plan, Staying, put_kept, stamp_of};
 use ele_output::Printer;
-use ele_policy::Policy;
 use std::io::Write;
 
 /// Puts the lines of so many moments, one for each policy.
@@ -43,22 +42,22 @@ fn put_plan<W: Write>(details: &Details, place: usize, plan: &Plan, printer: &mu
     ensures { Prints W.contents printer.old printer.new (plan_staying details.now place plan.now) }
 {
     if let Some(staying) = plan.stayings.get(place) {
-        put_staying(details, &plan.policy, staying, printer);
+        put_staying(details, plan.word.as_slice(), staying, printer);
     }
 }
 
-// Puts the line of a moment under a policy.
+// Puts the line of a moment under the policy of that word.
 fn put_staying<W: Write>(
     details: &Details,
-    policy: &Policy,
+    word: &[u8],
     staying: &Staying,
     printer: &mut Printer<'_, W>,
 )
-    ensures { Prints W.contents printer.old printer.new (policy_staying details.now policy.now staying.now) }
+    ensures { Prints W.contents printer.old printer.new (policy_staying details.now word.now staying.now) }
 {
     printer.put(b"at ");
     printer.put(&stamp_of(staying.at));
     printer.put(b" ");
-    put_policy(policy, printer);
+    printer.put(word);
     put_kept(details, staying.numbers.as_slice(), printer);
 }

@@ -17,7 +17,7 @@ mod why;
 pub use details::{Columns, Details, bytes_of, put_details, put_headings, size_of};
 pub use label::{Label, name_of, put_names};
 pub use listing::listed_at;
-pub use plan::{Plan, plan_of, plans_of, versions_of};
+pub use plan::{AskedPolicy, Plan, plans_of, versions_of};
 pub use policy::put_policy;
 pub use reach::{first_of, last_of, later};
 pub use row::{put_version, stamp_of};

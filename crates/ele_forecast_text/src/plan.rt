@@ -1,5 +1,5 @@
 //! Plans: the fates of a file's versions under a policy. A contract sees a plan as itself.
-ghost use Rattle.std.specs.Prelude.{◌≡◌, ◌≢◌, ◌⊎◌, [], IfOk, OnErr};
+ghost use Rattle.std.specs.Prelude.{◌≡◌, ◌≢◌, [], IfOk, OnErr};
 ghost use Rattle.ele_forecast_text.specs.Plan.{ArePlans, IsPlanOf, versions_of};
 
 use crate::staying::{Staying, staying_at};
@@ -8,9 +8,18 @@ use ele_moment::{Moment, NoMemory};
 use ele_policy::Policy;
 use std::alloc::Global;
 
+/// A policy, with the word by which it was given.
+#[derive(Drop)]
+pub struct AskedPolicy {
+    pub word: Vec<u8>,
+    pub policy: Policy,
+}
+
 /// The fates of a file's versions under a policy.
 #[derive(Drop)]
 pub struct Plan {
+    /// The word by which the policy was given.
+    pub word: Vec<u8>,
     pub policy: Policy,
     /// A forecast of each version.
     pub forecasts: Vec<Forecast>,
@@ -28,25 +37,26 @@ pub fn versions_of(plans: &[Plan]) -> &[Forecast]
     }
 }
 
-/// Returns the plan of the versions with these closings under a policy, and of the versions that stay
-/// at these moments. `NoMemory` if memory is refused; without closings and moments it takes none.
-pub fn plan_of(
+// The plan of the versions with these closings under a policy, and of the versions that stay at these moments.
+fn plan_of(
     alloc: Global,
-    policy: &Policy,
+    asked: &AskedPolicy,
     closings: &Closings,
     moments: &[Moment],
 ) -> Result<Plan, NoMemory>
-    ensures ok { IfOk result (IsPlanOf policy.now closings.now moments.now) }
-    ensures err { OnErr result ((closings.now ≢ []) ⊎ (moments.now ≢ [])) }
+    ensures { IfOk result (IsPlanOf asked.now closings.now moments.now) }
 {
-    let Ok(forecasts) = closings.forecasts(policy) else {
+    let mut word = Vec::new(alloc);
+    word.extend_from_slice(asked.word.as_slice())?;
+    let Ok(forecasts) = closings.forecasts(&asked.policy) else {
         return Err(NoMemory);
     };
-    let Ok(stayings) = staying_at(alloc, policy, closings, moments) else {
+    let Ok(stayings) = staying_at(alloc, &asked.policy, closings, moments) else {
         return Err(NoMemory);
     };
     Ok(Plan {
-        policy: *policy,
+        word,
+        policy: asked.policy,
         forecasts,
         stayings,
     })
@@ -56,7 +66,7 @@ pub fn plan_of(
 /// is refused; without policies it takes none.
 pub fn plans_of(
     alloc: Global,
-    policies: &[Policy],
+    policies: &[AskedPolicy],
     closings: &Closings,
     moments: &[Moment],
 ) -> Result<Vec<Plan>, NoMemory>
@@ -65,8 +75,8 @@ pub fn plans_of(
     ensures err { OnErr result (policies.now ≢ []) }
 {
     let mut plans = Vec::new(alloc);
-    for policy in policies {
-        plans.push(plan_of(alloc, policy, closings, moments)?)?;
+    for asked in policies {
+        plans.push(plan_of(alloc, asked, closings, moments)?)?;
     }
     Ok(plans)
 }

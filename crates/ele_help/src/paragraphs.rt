@@ -200,7 +200,7 @@ pub(crate) static PARAGRAPHS: [(&str, &str); 47] = [
     ),
     // trim
     (
-        "Folds the stored events of the history, which frees their memory. Later answers\nstay the same. It is never refused.",
+        "Folds the stored events of the history, which frees their memory. Later answers\nstay the same. K says how many events an audit loses: 'history' and 'answers'\nno longer have them. It is never refused.",
         "\nExample:\n    create /f    ok file 1\n    trim         ok trimmed 1\n",
     ),
     // unlink

@@ -8,12 +8,14 @@ use Rattle.ele_invocation.specs.Invocation.{IsRefusal, IsRun}
 use Rattle.ele_invocation.specs.Matches.{HasNumber}
 use Rattle.ele_invocation.specs.Runs.{AsksRun, IsEvents, options_of}
 use Rattle.ele_invocation.specs.declared.invocation.Invocation.{Invocation}
-use Rattle.ele_invocation.specs.declared.invocation.Invocation.TheVariants.{Run, Storm, Forecast, Help, NotUnderstood, NoMemory}
+use Rattle.ele_invocation.specs.declared.invocation.Invocation.TheVariants.{Run, Storm, Forecast, Evidence, Verify, Help, NotUnderstood, NoMemory}
 
 pub run_refused : (rows : List Row) (asked : Invocation) → IsRefusal asked → ((n : ℕ) → ¬ AsksRun rows n) → IsRun rows asked
 run_refused rows (Run limits options) is none = absurd is
 run_refused rows (Storm plan) is none = absurd is
 run_refused rows (Forecast ask) is none = absurd is
+run_refused rows Evidence is none = absurd is
+run_refused rows Verify is none = absurd is
 run_refused rows (Help text) is none = absurd is
 run_refused rows (NotUnderstood text) is none = (is, none)
 run_refused rows NoMemory is none = (is, none)

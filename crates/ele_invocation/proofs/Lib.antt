@@ -3,3 +3,4 @@ pub mod Simple
 pub mod OfClap
 pub mod Spelled
 pub mod Asked
+pub mod Asking

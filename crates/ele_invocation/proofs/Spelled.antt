@@ -1,18 +1,29 @@
 -- Words one after another, and what each spells.
-use Rattle.std.proofs.Common.{◌≡◌, ◌<◌, ◌∙◌, Bor, option_map, unwrap_or, ℕ, zero, suc, List, [], ◌∷◌, length, get_or, map, Option, Result, Ok, Err, Some, None, is_some, MatchBool, is_ok, IfNone, ap, sym, true, arith}
-use Rattle.std.specs.List.{AllZip}
+use Rattle.std.proofs.Common.{◌≡◌, ◌<◌, ◌∙◌, Bor, option_map, unwrap_or, Bool, ℕ, zero, suc, List, [], ◌∷◌, length, get_or, map, Option, Result, Ok, Err, Some, None, is_some, MatchBool, is_ok, IfNone, ◌||◌, refl, ap, sym, true, arith}
+use Rattle.std.specs.List.{AllZip, list_any}
 use Rattle.std.proofs.lemmas.Bool.{false≢true}
 use Rattle.std.proofs.lemmas.Option.{same_Some}
 use Rattle.ele_outlook.specs.declared.options.Form.{Form}
-use Rattle.ele_outlook.specs.declared.options.Form.TheVariants.{Table, Drawing, Due, Kept, Json, Csv, Every}
 use Rattle.ele_policy.specs.declared.policy.Policy.{Policy}
 use Rattle.ele_printer.specs.declared.fault.LineFault.{LineFault}
 use Rattle.ele_script.specs.PolicyWord.{ReadsPolicy}
 use Rattle.ele_tool_words.specs.Length.{SpellsLength}
-use Rattle.ele_invocation.specs.Forecasts.{IsForeign, IsOverTime, IsPlain}
+use Rattle.ele_tool_words.specs.Zone.{SpellsZone}
+use Rattle.ele_tool_words.specs.declared.zone.Offset.{Offset}
+use Rattle.ele_invocation.specs.Forecasts.{IsClock, IsForeign, IsOverTime, IsPlain, over_time}
 use Rattle.ele_invocation.specs.Unread.{NoneAsks}
 use Rattle.ele_invocation.specs.declared.reading.Unread.{Unread}
 use Rattle.ele_invocation.specs.declared.reading.Unread.TheVariants.{Because, BadRule, NoMemory}
+
+-- a test of what elements give
+pub any_map : {A B : Type 0} (p : B → Bool) (f : A → B) (xs : List A) → list_any p (map f xs) ≡ list_any (λ x. p (f x)) xs
+any_map p f [] = refl
+any_map p f (x ∷ xs) = ap (λ (b : Bool). p (f x) || b) (any_map p f xs)
+
+-- a word that spells no offset gives no clock
+pub no_clock : (word : List ℕ) → ((offset : Offset) → ¬ SpellsZone word offset) → (clock : Option Offset) → ¬ IsClock (Some word) clock
+no_clock word none None is = is
+no_clock word none (Some offset) is = none offset is
 
 -- a word that spells nothing
 pub none_zips : {A B C : Type 0} (f : C → A) (R : A → B → Type 0) (xs : List C) (ys : List B) (i : ℕ) (d : C) → i < length xs → ((y : B) → ¬ R (f (get_or xs i d)) y) → ¬ AllZip R (map f xs) ys
@@ -33,14 +44,9 @@ read_or_not word (Ok policy) reads = (policy, reads)
 read_or_not word (Err fault) reads = (fault, reads)
 
 -- the only length that a word spells gives the only form
-pub only_form : (word : List ℕ) (step : ℕ) (form : Form) → ((n : ℕ) → SpellsLength word n → ◌≡◌ {A = Option ℕ} (Some step) (Some n)) → IsOverTime word form → ◌≡◌ {A = Result Form Unread} (Ok (Every step)) (Ok form)
-only_form word step Table only is = absurd is
-only_form word step Drawing only is = absurd is
-only_form word step Due only is = absurd is
-only_form word step Kept only is = absurd is
-only_form word step Json only is = absurd is
-only_form word step Csv only is = absurd is
-only_form word step (Every n) only is = ap (λ (m : ℕ). Ok (Every m)) (same_Some step n (only n is.0))
+pub only_form : (csv : Bool) (word : List ℕ) (step : ℕ) (form : Form) → ((n : ℕ) → SpellsLength word n → ◌≡◌ {A = Option ℕ} (Some step) (Some n)) → IsOverTime csv word form → ◌≡◌ {A = Result Form Unread} (Ok (over_time csv step)) (Ok form)
+only_form csv word step form only is =
+    ap (λ (n : ℕ). Ok (over_time csv n)) (same_Some step is.step (only is.step is.spelled)) ∙ ap (λ (f : Form). Ok f) (sym is.form_is)
 
 -- there is no value, if it leads to nothing
 pub if_none : {T : Type 0} (o : Option T) (Q : Type 0) → ((is_some o ≡ true → ⊥) → Q) → IfNone o Q
@@ -60,3 +66,9 @@ values_are None d r got e f n =
     ap (λ (g : Option (List (List ℕ))). unwrap_or g []) (sym e) ∙ sym (ap (λ (b : Bor (List (Bor (List ℕ)))). map (λ (w : Bor (List ℕ)). w.now) b.now) f ∙ ap (map (λ (w : Bor (List ℕ)). w.now)) n)
 values_are (Some v) d r got e f n =
     ap (λ (g : Option (List (List ℕ))). unwrap_or g []) (sym e) ∙ sym (ap (λ (b : Bor (List (Bor (List ℕ)))). map (λ (w : Bor (List ℕ)). w.now) b.now) f)
+
+-- nothing is asked for, whatever the reason
+pub none_at_all : {X : Type 0} (P : X → Type 0) (why : Unread) → ((x : X) → ¬ P x) → NoneAsks P why
+none_at_all P (Because text) none = none
+none_at_all P (BadRule fault) none = none
+none_at_all P NoMemory none = tt

@@ -1,5 +1,5 @@
 -- What the program's words ask for.
-use Rattle.std.specs.Prelude.{◌≡◌, ◌≢◌, ◌⊎◌, Bool, true, false, List, [], ◌∷◌, Option, MatchBool, MatchOption, slice_get, unwrap_or, codes}
+use Rattle.std.specs.Prelude.{ℕ, ◌≡◌, ◌≢◌, ◌⊎◌, Bool, true, false, List, [], ◌∷◌, Option, MatchBool, MatchOption, slice_get, unwrap_or, codes}
 use Rattle.std.specs.Str.{bytes_eq}
 use Rattle.ele_help.specs.Topics.{has_help}
 use Rattle.ele_model.specs.Bounds.{largest_bounds}
@@ -9,7 +9,7 @@ use Rattle.ele_invocation.specs.Storms.{AsksStorm}
 use Rattle.ele_invocation.specs.Forecasts.{AsksForecast}
 use Rattle.ele_invocation.specs.Topics.{topic_in}
 use Rattle.ele_invocation.specs.declared.invocation.Invocation.{Invocation}
-use Rattle.ele_invocation.specs.declared.invocation.Invocation.TheVariants.{Run, Storm, Forecast, Help, NotUnderstood, NoMemory}
+use Rattle.ele_invocation.specs.declared.invocation.Invocation.TheVariants.{Run, Storm, Forecast, Evidence, Verify, Help, NotUnderstood, NoMemory}
 use Rattle.clap.specs.Words.{App, IsAmong, Kinds, Row, Text, fault_of, subcommand_of}
 use Rattle.clap.specs.declared.error.kind.ErrorKind.{ErrorKind}
 use Rattle.clap.specs.declared.error.kind.ErrorKind.TheVariants.{DisplayHelp, DisplayVersion}
@@ -24,6 +24,8 @@ abbrev pub IsRefusal : Invocation → Type 0
 IsRefusal (Run limits options) = ⊥
 IsRefusal (Storm plan) = ⊥
 IsRefusal (Forecast ask) = ⊥
+IsRefusal Evidence = ⊥
+IsRefusal Verify = ⊥
 IsRefusal (Help text) = ⊥
 IsRefusal (NotUnderstood text) = Unit {0}
 IsRefusal NoMemory = Unit {0}
@@ -43,11 +45,11 @@ abbrev pub IsStorm : List Row → Invocation → Type 0
 IsStorm rows (Storm plan) = AsksStorm rows plan
 IsStorm rows asked = Refuses (AsksStorm rows) asked
 
--- the forecast that the matches ask for; or a refusal if they ask for none, or there is no memory for its lists
-abbrev pub IsForecast : List Row → Invocation → Type 0
-IsForecast rows (Forecast ask) = AsksForecast rows ask
-IsForecast rows NoMemory = Unit {0}
-IsForecast rows asked = Refuses (AsksForecast rows) asked
+-- the forecast that the matches ask for where a clock shows now; or a refusal if they ask for none, or there is no memory for its lists
+abbrev pub IsForecast : Option ℕ → List Row → Invocation → Type 0
+IsForecast now rows (Forecast ask) = AsksForecast now rows ask
+IsForecast now rows NoMemory = Unit {0}
+IsForecast now rows asked = Refuses (AsksForecast now rows) asked
 
 -- help on words that have some, and a refusal of others; or there was no memory for the text
 abbrev pub IsHelp : Bool → Invocation → Type 0
@@ -57,12 +59,14 @@ IsHelp has NoMemory = Unit {0}
 IsHelp has asked = ⊥
 
 -- what a command asks for by its matches
-abbrev pub IsCommand : Text → List Row → Invocation → Type 0
-IsCommand name rows asked =
+abbrev pub IsCommand : Option ℕ → Text → List Row → Invocation → Type 0
+IsCommand now name rows asked =
     MatchBool (bytes_eq name (codes "run")) (IsRun rows asked)
     (MatchBool (bytes_eq name (codes "storm")) (IsStorm rows asked)
-    (MatchBool (bytes_eq name (codes "forecast")) (IsForecast rows asked)
-    (MatchBool (bytes_eq name (codes "script")) (IsHelp true asked) (IsRefusal asked))))
+    (MatchBool (bytes_eq name (codes "forecast")) (IsForecast now rows asked)
+    (MatchBool (bytes_eq name (codes "evidence")) (asked ≡ Evidence)
+    (MatchBool (bytes_eq name (codes "verify")) (asked ≡ Verify)
+    (MatchBool (bytes_eq name (codes "script")) (IsHelp true asked) (IsRefusal asked))))))
 
 -- an error of clap: help and the version are shown, and all others refuse the words
 abbrev pub IsShown : ErrorKind → Invocation → Type 0
@@ -72,13 +76,13 @@ IsShown kind NoMemory = Unit {0}
 IsShown kind asked = ⊥
 
 -- by the kinds of error that clap may have: one of them, or if there is none what the command that it found asks for
-abbrev pub IsFound : Kinds → Option (Text × List Row) → Invocation → Type 0
-IsFound [] found asked = MatchOption found (IsRefusal asked) (λ command. IsCommand command.0 command.1 asked)
-IsFound (kind ∷ kinds) found asked = (shown : ErrorKind) × IsAmong shown (kind ∷ kinds) × IsShown shown asked
+abbrev pub IsFound : Option ℕ → Kinds → Option (Text × List Row) → Invocation → Type 0
+IsFound now [] found asked = MatchOption found (IsRefusal asked) (λ command. IsCommand now command.0 command.1 asked)
+IsFound now (kind ∷ kinds) found asked = (shown : ErrorKind) × IsAmong shown (kind ∷ kinds) × IsShown shown asked
 
 -- the same, or there was no memory to read the words
-abbrev pub IsRead : Kinds → Option (Text × List Row) → Invocation → Type 0
-IsRead kinds found asked = IsFound kinds found asked ⊎ (asked ≡ NoMemory)
+abbrev pub IsRead : Option ℕ → Kinds → Option (Text × List Row) → Invocation → Type 0
+IsRead now kinds found asked = IsFound now kinds found asked ⊎ (asked ≡ NoMemory)
 
 -- the program as clap reads it for these words, of which the first is its name
 abbrev pub app_for : List Text → App
@@ -92,6 +96,6 @@ faults_in words = fault_of (app_for words) words
 unfoldable pub command_in : List Text → Option (Text × List Row)
 command_in words = subcommand_of (app_for words) words
 
--- the words ask for the help on a topic, or for what clap reads in them
-abbrev pub IsAsked : List Text → Invocation → Type 0
-IsAsked words asked = MatchOption (topic_in words) (IsRead (faults_in words) (command_in words) asked) (λ topic. IsHelp (has_help topic.0 topic.1) asked)
+-- the words ask for the help on a topic, or for what clap reads in them where a clock shows now
+abbrev pub IsAsked : Option ℕ → List Text → Invocation → Type 0
+IsAsked now words asked = MatchOption (topic_in words) (IsRead now (faults_in words) (command_in words) asked) (λ topic. IsHelp (has_help topic.0 topic.1) asked)

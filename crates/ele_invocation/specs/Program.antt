@@ -1,5 +1,5 @@
 -- The program as clap reads it: its commands, and the arguments of each.
-use Rattle.std.specs.Prelude.{true, false, List, [], ◌∷◌, Some, if◌then◌else◌, codes}
+use Rattle.std.specs.Prelude.{true, false, List, [], ◌∷◌, ◌++◌, Some, if◌then◌else◌, codes}
 use Rattle.std.specs.Str.{bytes_eq}
 use Rattle.clap.specs.Words.{App, Rule, Shape, Text, new_app, new_rule}
 use Rattle.clap.specs.declared.builder.action.ArgAction.TheVariants.{Append, SetTrue}
@@ -20,9 +20,6 @@ default_rule name value = record (option_rule name) { defaults = value ∷ [] }
 abbrev pub repeated_rule : Text → Rule
 repeated_rule name = record (option_rule name) { action = Some Append }
 
-abbrev pub required_rule : Text → Rule
-required_rule name = record (repeated_rule name) { required = true }
-
 abbrev pub command_shape : Text → List Rule → Shape
 command_shape name rules = record (new_app name).top { rules = rules }
 
@@ -35,11 +32,24 @@ abbrev pub storm_shape : Shape
 storm_shape = command_shape (codes "storm") (default_rule (codes "writers") (codes "2")
     ∷ default_rule (codes "historians") (codes "1") ∷ default_rule (codes "rounds") (codes "10") ∷ [])
 
+-- what is forecast, and when; a word that is no option is read as a file, and refused later
+abbrev pub asked_rules : List Rule
+asked_rules = new_rule (codes "file") ∷ repeated_rule (codes "policy") ∷ repeated_rule (codes "at") ∷ option_rule (codes "every")
+    ∷ repeated_rule (codes "rule") ∷ option_rule (codes "offset") ∷ []
+
+-- the fields of its input, and its form
+abbrev pub form_rules : List Rule
+form_rules = flag_rule (codes "labels") ∷ flag_rule (codes "sizes") ∷ option_rule (codes "list") ∷ flag_rule (codes "svg")
+    ∷ option_rule (codes "title") ∷ flag_rule (codes "json") ∷ flag_rule (codes "csv") ∷ []
+
 abbrev pub forecast_shape : Shape
-forecast_shape = command_shape (codes "forecast") (required_rule (codes "policy") ∷ repeated_rule (codes "at")
-    ∷ option_rule (codes "every") ∷ flag_rule (codes "labels") ∷ flag_rule (codes "sizes") ∷ option_rule (codes "list")
-    ∷ flag_rule (codes "svg") ∷ option_rule (codes "title") ∷ flag_rule (codes "json") ∷ flag_rule (codes "csv")
-    ∷ repeated_rule (codes "rule") ∷ option_rule (codes "offset") ∷ [])
+forecast_shape = command_shape (codes "forecast") (asked_rules ++ form_rules)
+
+abbrev pub evidence_shape : Shape
+evidence_shape = command_shape (codes "evidence") []
+
+abbrev pub verify_shape : Shape
+verify_shape = command_shape (codes "verify") []
 
 -- prints the topic of that name
 abbrev pub script_shape : Shape
@@ -58,7 +68,7 @@ abbrev pub program_app : List Shape → App
 program_app commands = record { top = record program_shape { is_leaf = false }; subs = commands }
 
 abbrev pub all_commands : List Shape
-all_commands = run_shape ∷ storm_shape ∷ forecast_shape ∷ script_shape ∷ []
+all_commands = run_shape ∷ storm_shape ∷ forecast_shape ∷ evidence_shape ∷ verify_shape ∷ script_shape ∷ []
 
 -- the commands that clap gets: the one that this word names, and otherwise each
 abbrev pub commands_for : Text → List Shape

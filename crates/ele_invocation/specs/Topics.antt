@@ -9,7 +9,7 @@ use Rattle.clap.specs.Words.{Text}
 abbrev pub is_left_to_clap : Text → Bool
 is_left_to_clap word =
     list_any (bytes_eq word)
-    (codes "run" ∷ codes "storm" ∷ codes "forecast" ∷ codes "help" ∷ codes "--help" ∷ codes "-h" ∷ [])
+    (codes "run" ∷ codes "storm" ∷ codes "forecast" ∷ codes "evidence" ∷ codes "verify" ∷ codes "help" ∷ codes "--help" ∷ codes "-h" ∷ [])
 
 -- the words after the program's name are `help`, a topic and at most one word more
 abbrev pub is_help : List Text → Bool

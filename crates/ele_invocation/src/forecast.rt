@@ -1,14 +1,15 @@
 //! The arguments of a forecast.
-ghost use Rattle.std.specs.Prelude.{◌≡◌, IfOk};
+ghost use Rattle.std.specs.Prelude.{◌≡◌, IfOk, codes};
 ghost use Rattle.ele_invocation.specs.Built.{HasShape};
 ghost use Rattle.ele_invocation.specs.Invocation.{IsForecast};
-ghost use Rattle.ele_invocation.specs.Program.{forecast_shape};
+ghost use Rattle.ele_invocation.specs.Program.{asked_rules, command_shape, forecast_shape};
 ghost use Rattle.clap.specs.Words.{found_of, rows_of};
 
 use crate::invocation::{Invocation, command_of, flag, not_understood, option};
 use crate::reading::{Unread, read_forecast};
 use crate::rules::bad_rule;
-use clap::{ArgAction, ArgMatches, Command};
+use clap::{Arg, ArgAction, ArgMatches, Command};
+use ele_moment::Moment;
 use std::alloc::{AllocError, Global};
 
 const FORECAST: &str = "Print when each version of a file becomes due, and why";
@@ -22,32 +23,37 @@ landmarks:AGE/WIDTH,.. ('elephant help policies'). AGE, WIDTH and LENGTH are
 seconds, or a number with s, m, h, d, w or y, as 7d.
 
 A rule is a tool, a colon and options of that tool, as in
-restic:keep-last=3,keep-daily=7 or borg:keep-within=30d,keep-weekly=4. It keeps
-by the days, weeks and months of the clock of each time.
+restic:keep-last=3,keep-daily=7 or borg:keep-within=30d,keep-weekly=4. The tool
+is restic, restic-0.15, borg, btrbk, snapper or sanoid. It keeps by the days,
+weeks and months of the clock of each time.
 
 Example:
   printf '2026-01-01\\n2026-01-02\\n' | elephant forecast --policy safe:7d";
 
-const POLICY: &str = "Forecast under POL; give up to 16 to compare them";
+const POLICY: &str = "Forecast under POL; give up to 16 to compare them. With\n\
+    --rule alone it is `all`";
 
-const AT: &str = "Also print which versions are kept at the moment M; can\n\
-    be given several times";
+const AT: &str = "Also print which versions are kept at the moment M: a\n\
+    time, now, +30d or 18:00 in UTC; can be given several\n\
+    times";
 
-const SVG: &str = "Print an SVG drawing instead of the table";
+const SVG: &str = "Print an SVG drawing instead of the table; with --sizes\n\
+    of the bytes that stay";
 
 const TITLE: &str = "Give the drawing this title";
 
 const EVERY: &str = "Print how many versions each policy keeps, every\n\
-    LENGTH from the first closing on";
+    LENGTH from the first closing on; with --sizes also how\n\
+    many bytes it keeps and frees";
 
 const JSON: &str = "Print JSON instead of the table";
 
-const CSV: &str = "Print CSV instead of the table";
+const CSV: &str = "Print CSV instead of the table, also of --every";
 
 const LABELS: &str = "Read a tab and a label after each time, and print it";
 
 const SIZES: &str = "Read a tab and a size in bytes after each time, before\n\
-    a label, and print it";
+    a label, and print it, and what the removals free";
 
 const LIST: &str = "Print only the versions that are `due` or `kept` at the\n\
     moment of --at: their labels, or without --labels their\n\
@@ -59,35 +65,47 @@ const RULE: &str = "Also print what a rule of another tool keeps, beside\n\
 const OFFSET: &str = "Read times without an offset by a clock of this one, as\n\
     +05:30";
 
+// Returns the command with the arguments that say what is forecast, and when.
+fn asked<'a>(alloc: Global) -> Result<Command<'a>, AllocError>
+    ensures { IfOk result (HasShape (command_shape (codes "forecast") asked_rules)) }
+{
+    let policy = option(alloc, "policy", "POL", POLICY).action(ArgAction::Append);
+    let at = option(alloc, "at", "M", AT).action(ArgAction::Append);
+    let rule = option(alloc, "rule", "RULE", RULE).action(ArgAction::Append);
+    // A file among the arguments is refused with a hint.
+    let file = Arg::new(alloc, "file").hide(true);
+    command_of(alloc, "forecast", FORECAST, MORE)
+        .arg(file)?
+        .arg(policy)?
+        .arg(at)?
+        .arg(option(alloc, "every", "LENGTH", EVERY))?
+        .arg(rule)?
+        .arg(option(alloc, "offset", "OFFSET", OFFSET))
+}
+
 /// Returns the arguments of a forecast, as clap reads them.
 pub(crate) fn forecast<'a>(alloc: Global) -> Result<Command<'a>, AllocError>
     ensures { IfOk result (HasShape forecast_shape) }
 {
-    let policy = option(alloc, "policy", "POL", POLICY)
-        .action(ArgAction::Append)
-        .required(true);
-    let at = option(alloc, "at", "M", AT).action(ArgAction::Append);
-    let rule = option(alloc, "rule", "RULE", RULE).action(ArgAction::Append);
-    command_of(alloc, "forecast", FORECAST, MORE)
-        .arg(policy)?
-        .arg(at)?
-        .arg(option(alloc, "every", "LENGTH", EVERY))?
+    asked(alloc)?
         .arg(flag(alloc, "labels", LABELS))?
         .arg(flag(alloc, "sizes", SIZES))?
         .arg(option(alloc, "list", "WHICH", LIST))?
         .arg(flag(alloc, "svg", SVG))?
         .arg(option(alloc, "title", "TEXT", TITLE))?
         .arg(flag(alloc, "json", JSON))?
-        .arg(flag(alloc, "csv", CSV))?
-        .arg(rule)?
-        .arg(option(alloc, "offset", "OFFSET", OFFSET))
+        .arg(flag(alloc, "csv", CSV))
 }
 
 /// Returns what the arguments of a forecast ask for.
-pub(crate) fn asked_forecast(alloc: Global, forecast: &ArgMatches) -> Invocation
-    ensures { IsForecast (rows_of (found_of forecast.now)) result }
+pub(crate) fn asked_forecast(
+    alloc: Global,
+    now: Option<Moment>,
+    forecast: &ArgMatches,
+) -> Invocation
+    ensures { IsForecast now (rows_of (found_of forecast.now)) result }
 {
-    match read_forecast(alloc, forecast) {
+    match read_forecast(alloc, now, forecast) {
         Ok(ask) => Invocation::Forecast(ask),
         Err(Unread::Because(why)) => not_understood(alloc, why),
         Err(Unread::BadRule(fault)) => bad_rule(alloc, fault),

@@ -30,6 +30,7 @@ ghost use Rattle.ele_invocation.specs.Program.{
 };
 ghost use Rattle.clap.specs.Words.{found_of, kind_of, new_app, rows_of, subcommand_rows_of};
 
+use crate::evidence::{EVIDENCE, EVIDENCE_MORE, VERIFY, VERIFY_MORE};
 use crate::forecast::{asked_forecast, forecast};
 use crate::run::{asked_run, run};
 use crate::storm::{asked_storm, storm};
@@ -37,6 +38,7 @@ use crate::topics::{asked_topic, topic_of};
 use clap::error::ErrorKind;
 use clap::{Arg, ArgAction, ArgMatches, Command, Error};
 use ele_model::Limits;
+use ele_moment::Moment;
 use ele_outlook::ForecastOptions;
 use ele_run_options::RunOptions;
 use ele_storm_plan::StormPlan;
@@ -53,6 +55,10 @@ pub enum Invocation {
     Storm(StormPlan),
     /// A forecast of the closings on standard input.
     Forecast(ForecastOptions),
+    /// The evidence of the history that the script on standard input makes, under the largest limits.
+    Evidence,
+    /// Whether the text on standard input is the evidence of such a history.
+    Verify,
     /// A text of help, or the version. The program ends with status 0.
     Help(String),
     /// The arguments aren't understood, for the reason in the text. The program ends with status 2.
@@ -82,7 +88,8 @@ reads it as it was:
 
 'elephant run < FILE' runs the script in FILE, and 'elephant help script' lists
 all commands. 'elephant help TOPIC' explains script, policies, refusals, limits,
-run, storm, forecast, or a command, as in 'elephant help create'.";
+run, storm, forecast, evidence, verify, or a command, as in
+'elephant help create'.";
 
 const SCRIPT: &str = "List the commands of scripts";
 
@@ -145,6 +152,8 @@ fn whole_program<'a>(alloc: Global) -> Result<Command<'a>, AllocError>
         .subcommand(run(alloc)?)?
         .subcommand(storm(alloc)?)?
         .subcommand(forecast(alloc)?)?
+        .subcommand(command_of(alloc, "evidence", EVIDENCE, EVIDENCE_MORE))?
+        .subcommand(command_of(alloc, "verify", VERIFY, VERIFY_MORE))?
         .subcommand(command_of(alloc, "script", SCRIPT, ALL_COMMANDS))
 }
 
@@ -182,25 +191,27 @@ pub(crate) fn not_understood(alloc: Global, text: &str) -> Invocation
 }
 
 // Returns what a command asks for by its matches.
-fn asked_by(alloc: Global, name: &str, matches: &ArgMatches) -> Invocation
-    ensures { IsCommand name.now (rows_of (found_of matches.now)) result }
+fn asked_by(alloc: Global, now: Option<Moment>, name: &str, matches: &ArgMatches) -> Invocation
+    ensures { IsCommand now name.now (rows_of (found_of matches.now)) result }
 {
     match name {
         "run" => asked_run(alloc, matches),
         "storm" => asked_storm(alloc, matches),
-        "forecast" => asked_forecast(alloc, matches),
+        "forecast" => asked_forecast(alloc, now, matches),
+        "evidence" => Invocation::Evidence,
+        "verify" => Invocation::Verify,
         "script" => asked_topic(alloc, name, None),
         _ => not_understood(alloc, NO_COMMAND),
     }
 }
 
 // Returns what arguments ask for that clap understood.
-fn understood(alloc: Global, matches: &ArgMatches) -> Invocation
+fn understood(alloc: Global, now: Option<Moment>, matches: &ArgMatches) -> Invocation
     ensures { MatchOption (subcommand_rows_of matches.now) (IsRefusal result)
-        (λ command. IsCommand command.0 command.1 result) }
+        (λ command. IsCommand now command.0 command.1 result) }
 {
     match matches.subcommand() {
-        Some((name, found)) => asked_by(alloc, name, found),
+        Some((name, found)) => asked_by(alloc, now, name, found),
         None => not_understood(alloc, NO_COMMAND),
     }
 }
@@ -221,8 +232,8 @@ fn refused(alloc: Global, error: &Error) -> Invocation
 }
 
 // Returns what clap finds in the arguments.
-fn read_words(alloc: Global, words: &[String]) -> Invocation
-    ensures { IsRead (faults_in (map string_bytes words.now))
+fn read_words(alloc: Global, now: Option<Moment>, words: &[String]) -> Invocation
+    ensures { IsRead now (faults_in (map string_bytes words.now))
         (command_in (map string_bytes words.now)) result }
 {
     let Ok(command) = command(alloc, word(words, 1).unwrap_or("")) else {
@@ -230,7 +241,7 @@ fn read_words(alloc: Global, words: &[String]) -> Invocation
     };
     match command.try_get_matches_from(words) {
         Ok(matches) => {
-            let invocation = understood(alloc, &matches);
+            let invocation = understood(alloc, now, &matches);
             // The words are kept for as long as the program runs.
             mem::forget(matches);
             invocation
@@ -239,13 +250,14 @@ fn read_words(alloc: Global, words: &[String]) -> Invocation
     }
 }
 
-/// Returns what the program's arguments ask for. The first of them is the program's name.
-pub fn words(alloc: Global, words: &[String]) -> Invocation
-    ensures { IsAsked (map string_bytes words.now) result }
+/// Returns what the program's arguments ask for, where a clock shows `now`, or nothing. The first of them is the program's
+/// name. Without a clock no word means a moment from now on.
+pub fn words(alloc: Global, now: Option<Moment>, words: &[String]) -> Invocation
+    ensures { IsAsked now (map string_bytes words.now) result }
 {
     match topic_of(words) {
         Some((first, second)) => asked_topic(alloc, first, second),
-        None => read_words(alloc, words),
+        None => read_words(alloc, now, words),
     }
 }
 

@@ -1,7 +1,8 @@
-//! What the program's arguments ask for, read by clap: a run, a storm, a forecast or help.
+//! What the program's arguments ask for, read by clap: a run, a storm, a forecast, evidence or help.
 //! A contract sees the program as clap reads it, and for each command which of its words ask for what.
 #![tactic(auto)]
 
+mod evidence;
 mod forecast;
 mod invocation;
 mod matches;

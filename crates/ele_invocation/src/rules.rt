@@ -1,8 +1,9 @@
 //! The rules of other tools that the matches of a forecast name, and its clock.
 //! A contract sees each word as what it means or spells.
-ghost use Rattle.std.specs.Prelude.{◌≡◌, IfErr, IfOk, codes, map};
-ghost use Rattle.std.specs.List.{AllZip};
-ghost use Rattle.ele_invocation.specs.Forecasts.{AsksRule, IsClock};
+ghost use Rattle.std.specs.Prelude.{◌≡◌, ◌↔◌, ◌||◌, ◌∷◌, [], IfErr, IfOk, IsOk, codes, map, not, true};
+ghost use Rattle.std.specs.List.{AllZip, list_any};
+ghost use Rattle.std.specs.Option.{option_map};
+ghost use Rattle.ele_invocation.specs.Forecasts.{AsksRule, IsClock, needs_labels, policies_beside};
 ghost use Rattle.ele_invocation.specs.Invocation.{IsRefusal};
 ghost use Rattle.ele_invocation.specs.Unread.{NoneAsks};
 ghost use Rattle.clap.specs.Words.{first_of, found_of, rows_of};
@@ -19,6 +20,56 @@ use std::alloc::{AllocError, Global};
 const BAD_OFFSET: &str = "error: --offset takes an offset from UTC, as +05:30; write \
     --offset=-05:00 for one behind UTC\n\n\
     For more information, try 'elephant forecast --help'.\n";
+
+const NO_LABELS: &str =
+    "error: a rule of sanoid takes --labels, which are the names of snapshots\n\n\
+    For more information, try 'elephant forecast --help'.\n";
+
+/// Returns the words of policies. Beside rules alone they are these.
+pub(crate) fn policy_words<'w>(
+    rules: &[&str],
+    given: Option<&'w [&'w str]>,
+    alone: &'w [&'w str],
+) -> Option<&'w [&'w str]>
+    requires { map (λ word. word.now) alone.now ≡ codes "all" ∷ [] }
+    ensures { option_map (λ words. map (λ word. word.now) words.now) result
+        ≡ policies_beside (map (λ word. word.now) rules.now)
+        (option_map (λ words. map (λ word. word.now) words.now) given.entry) }
+{
+    match given {
+        Some(words) => Some(words),
+        None => match rules {
+            [] => None,
+            [_, ..] => Some(alone),
+        },
+    }
+}
+
+/// Refuses a rule that tells versions by their labels, if they have none.
+#[tactic(auto, using(crate::proofs::Spelled::any_map))]
+pub(crate) fn check_labels(labels: bool, rules: &[&str]) -> Result<(), Unread>
+    ensures { IsOk result ↔ ((labels
+        || not (list_any needs_labels (map (λ word. word.now) rules.now))) ≡ true) }
+{
+    if labels || !some_needs_labels(rules) {
+        return Ok(());
+    }
+    Err(Unread::Because(NO_LABELS))
+}
+
+// Whether one of the rules tells versions by their labels.
+fn some_needs_labels(rules: &[&str]) -> bool
+    ensures { result ≡ list_any (λ word. needs_labels word.now) rules.now }
+{
+    rules.iter().any(|word| needs_labels(word))
+}
+
+// Whether a rule tells versions by their labels.
+fn needs_labels(word: &str) -> bool
+    ensures { result ≡ needs_labels word.now }
+{
+    word.as_bytes().starts_with(b"sanoid:")
+}
 
 /// Returns the rules that the words mean.
 pub(crate) fn rules_in(alloc: Global, words: &[&str]) -> Result<Vec<AskedRule>, Unread>
@@ -52,17 +103,17 @@ fn rule_of(alloc: Global, word: &str) -> Result<AskedRule, Unread>
     Ok(AskedRule { word: name, rule })
 }
 
-/// Returns the clock of times that name no offset.
-pub(crate) fn clock_in(forecast: &ArgMatches) -> Result<Offset, Unread>
+/// Returns the clock of times that name no offset, if one is given.
+pub(crate) fn clock_in(forecast: &ArgMatches) -> Result<Option<Offset>, Unread>
     ensures read { IfOk result (IsClock (first_of (codes "offset") (rows_of (found_of forecast.now)))) }
     ensures unread { IfErr result (NoneAsks (IsClock (first_of (codes "offset")
         (rows_of (found_of forecast.now))))) }
 {
     let Some(word) = value_of(forecast, "offset") else {
-        return Ok(Offset::Ahead(0));
+        return Ok(None);
     };
     match read_offset(word.as_bytes()) {
-        Some(clock) => Ok(clock),
+        Some(clock) => Ok(Some(clock)),
         None => Err(Unread::Because(BAD_OFFSET)),
     }
 }

@@ -10,7 +10,7 @@ use std::alloc::Global;
 
 const NO_TOPIC: &str = "error: there is no help on this topic\n\n\
     Topics: script, policies, refusals, limits, run, storm, forecast,\n\
-    and each command of scripts, as in 'elephant help create'\n\n\
+    evidence, verify, and each command of scripts, as in 'elephant help create'\n\n\
     For more information, try 'elephant help' and 'elephant help script'.\n";
 
 // Whether clap has the help on a word of the program.
@@ -19,7 +19,7 @@ fn is_left_to_clap(first: &str) -> bool
 {
     matches!(
         first,
-        "run" | "storm" | "forecast" | "help" | "--help" | "-h"
+        "run" | "storm" | "forecast" | "evidence" | "verify" | "help" | "--help" | "-h"
     )
 }
 

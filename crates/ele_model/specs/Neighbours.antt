@@ -1,5 +1,4 @@
--- The held versions next to one of a file, and the ripe moment that follows from them. No public clause that a reader of the core needs
--- cites this module: `ele_files` finds such versions.
+-- The held versions next to one of a file, and the ripe moment that follows from them, as `ele_files` finds them.
 use Rattle.std.specs.Prelude.{ℕ, ◌==◌, nat_lt, nat_le, Bool, false, ◌&&◌, List, Option, Some, find, option_and_then}
 use Rattle.std.specs.List.{count_by}
 use Rattle.std.specs.Option.{option_map, option_map_or}

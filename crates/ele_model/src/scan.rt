@@ -26,6 +26,8 @@ use std::alloc::Global;
 use std::collections::BTreeSet;
 
 /// The file's policy, if it is there.
+///
+/// Cost: grows with the files.
 pub fn policy_of(files: &[FileRow], file: FileId) -> Option<Policy>
     ensures { result ≡ policy_of files.now file }
 {
@@ -52,6 +54,8 @@ fn is_open(handles: &[HandleRow], file: FileId, number: VersionNo) -> bool
 }
 
 /// Whether the group has the file.
+///
+/// Cost: grows with the group's members.
 pub fn is_member(group: &GroupRow, file: FileId) -> bool
     ensures { result ≡ is_member file group.now }
 {
@@ -139,6 +143,8 @@ fn newer_closings(
 }
 
 /// Whether the file has a live name.
+///
+/// Cost: grows with the names.
 pub fn is_live(names: &[NameRow], file: FileId) -> bool
     ensures { result ≡ list_any (is_live_name_of file) names.now }
 {
@@ -158,6 +164,10 @@ fn ignores_newer(policy: &Policy, is_live: bool) -> bool
 
 /// When the policy lets go a version that ended then. The rows are plain and unchecked, so any
 /// newer version may decide.
+///
+/// `NoMemory` if memory is refused. If the policy ignores newer versions, it takes none.
+///
+/// Cost: grows with the versions, unless the policy ignores newer ones.
 #[tactic(auto, using(crate::proofs::DueKeys::looks_away_tells))]
 pub fn ripe_by(
     policy: &Policy,

@@ -9,7 +9,7 @@ use Rattle.ele_forecast_text.specs.declared.details.Details.{Details}
 use Rattle.ele_outlook.specs.Input.{Asked, HasSize, SpellsLine, label_of, labels_of, size_word, size_words_of, words_of}
 use Rattle.ele_outlook.specs.Reading.{AddsDetails, AddsFields, AddsLine, AreAdded, AreFields, IsSize}
 use Rattle.ele_outlook.specs.Told.{AreDetails}
-use Rattle.ele_peer_rules.specs.declared.row.Row.{Row}
+use Rattle.ele_rule_parts.specs.declared.row.Row.{Row}
 use Rattle.ele_outlook.specs.declared.input.ReadLines.{ReadLines}
 use Rattle.ele_outlook.specs.declared.options.LineForm.{LineForm}
 use Rattle.ele_outlook.specs.declared.fault.ForecastFault.{ForecastFault}

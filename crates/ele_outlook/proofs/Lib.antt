@@ -4,6 +4,8 @@ mod Known
 mod Detailed
 -- the lines of an input
 mod Lines
+-- a line that is passed over
+mod Passed
 -- the first tab of a text
 mod Tabs
 -- forecasts of lines

@@ -13,7 +13,7 @@ use Rattle.ele_lists.proofs.Taken.{cut-at}
 use Rattle.ele_outlook.specs.Input.{IsBad, SpellsLine, closings_of, label_of, labels_of, lines_of, size_word, size_words_of, without_empty_last}
 use Rattle.ele_outlook.specs.Reading.{AreRead, FailsToAdd, HaveRead, IsWithLine, ReadsLines}
 use Rattle.ele_outlook.specs.Told.{AreDetails}
-use Rattle.ele_peer_rules.specs.declared.row.Row.{Row}
+use Rattle.ele_rule_parts.specs.declared.row.Row.{Row}
 use Rattle.ele_outlook.specs.declared.input.ReadLines.{ReadLines}
 use Rattle.ele_outlook.proofs.Detailed.{details_more, no_words}
 use Rattle.ele_outlook.specs.declared.options.LineForm.{LineForm}

@@ -1,31 +1,35 @@
 -- The tables of plans, and their moments.
-use Rattle.std.proofs.Common.{◌≡◌, ◌≢◌, ℕ, ◌<◌, ◌⊎◌, inl, inr, Bool, true, false, List, [], ◌∷◌, length, map, refl, ap, subst, ◌∙◌, ◌==◌, arith}
+use Rattle.std.proofs.Common.{◌≡◌, ◌≢◌, ℕ, ◌⊎◌, inl, inr, Bool, true, false, List, [], ◌∷◌, length, map, refl, ap, subst, ◌∙◌, ◌==◌, arith}
 use Rattle.std.proofs.lemmas.Bool.Decides.{nat_tests}
-use Rattle.ele_policy.specs.declared.policy.Policy.{Policy}
 use Rattle.ele_forecast_forms.specs.Compared.{compared_text}
 use Rattle.ele_forecast.specs.FileOf.{lives_from}
 use Rattle.ele_forecast.specs.ForecastOf.{told_life}
 use Rattle.ele_forecast.specs.declared.forecast.Forecast.{Forecast}
 use Rattle.ele_forecast_text.specs.Plan.{ArePlans, versions_of}
 use Rattle.ele_forecast_text.specs.declared.details.Details.{Details}
+use Rattle.ele_forecast_text.specs.declared.plan.AskedPolicy.{AskedPolicy}
 use Rattle.ele_forecast_text.specs.declared.plan.Plan.{Plan}
 use Rattle.ele_forecast_text.specs.declared.staying.Staying.{Staying}
-use Rattle.std.specs.Prelude.{decimal, nat_lt}
+use Rattle.std.specs.Prelude.{decimal}
 use Rattle.ele_svg.specs.Drawing.{has_curves}
-use Rattle.ele_peer_rules.specs.declared.row.Row.{Row}
+use Rattle.ele_rule_parts.specs.declared.row.Row.{Row}
 use Rattle.ele_rule_forecast.specs.Judged.{AreJudged}
 use Rattle.ele_rule_forecast.specs.RuledCsv.{ruled_csv}
-use Rattle.ele_rule_forecast.specs.RuledJson.{ruled_json}
 use Rattle.ele_rule_forecast.specs.RuledTable.{ruled_text}
 use Rattle.ele_rule_forecast.specs.declared.judged.AskedRule.{AskedRule}
 use Rattle.ele_rule_forecast.specs.declared.judged.Judged.{Judged}
 use Rattle.ele_forecast_forms.specs.Csv.{csv_text}
-use Rattle.ele_forecast_forms.specs.Json.{json_text}
+use Rattle.ele_forecast_forms.specs.OverTime.{count_of, moments_every, moments_from}
+use Rattle.ele_forecast_forms.specs.declared.counts.Counts.{Counts}
+use Rattle.ele_forecast_text.specs.Reach.{first_of}
+use Rattle.ele_space.specs.Amounts.{AreAmountsAt}
+use Rattle.ele_outlook.specs.declared.options.Form.{Form}
+use Rattle.ele_outlook.specs.declared.options.Form.TheVariants.{Table, Drawing, BytesDrawing, Due, Kept, Json, Csv, Every, EveryCsv}
 use Rattle.ele_outlook.specs.Reading.{IsFoundIn, IsOfForm, MayLack}
 use Rattle.ele_outlook.specs.declared.input.ReadLines.{ReadLines}
 use Rattle.ele_outlook.specs.declared.found.Found.{Found}
 use Rattle.ele_outlook.specs.declared.options.ForecastOptions.{ForecastOptions}
-use Rattle.ele_outlook.specs.Told.{AreRows, AsksMuch, IsForecastText, IsOver, is_over, plain_table, stayings_of, texts_of, told_csv, told_json, told_of, told_table}
+use Rattle.ele_outlook.specs.Told.{AreRows, AsksMuch, IsForecastText, IsOver, amount_moments, is_over, plain_table, stayings_of, texts_of, told_csv, told_of, told_table}
 
 -- the table of several plans, or none
 pub compared_for : (named : Bool) (details : Details) (plans : List Plan) (moments : ℕ) → length plans ≢ 1 → compared_text details plans moments ≡ plain_table named details plans moments
@@ -38,7 +42,7 @@ no_stayings [] moments at none = refl
 no_stayings (staying ∷ stayings) moments at none = absurd (let e : map (λ (staying : Staying). staying.at) (staying ∷ stayings) ≡ [] = at ∙ none in cc)
 
 -- if there is a staying, a moment is given
-pub asked : (policies : List Policy) (closings moments : List ℕ) (plans : List Plan) → ArePlans policies closings moments plans → stayings_of plans ≢ [] → moments ≢ []
+pub asked : (policies : List AskedPolicy) (closings moments : List ℕ) (plans : List Plan) → ArePlans policies closings moments plans → stayings_of plans ≢ [] → moments ≢ []
 asked policies closings moments [] are some none = some refl
 asked [] closings moments (plan ∷ plans) are some none = are
 asked (policy ∷ policies) closings moments (plan ∷ plans) are some none = some (no_stayings plan.stayings.items moments are.0.stay.at none)
@@ -48,34 +52,47 @@ no_forecasts [] closings lives none = refl
 no_forecasts (told ∷ forecasts) closings lives none = absurd (let e : map told_life (told ∷ forecasts) ≡ [] = lives ∙ ap (lives_from 1) none in cc)
 
 -- if there is a forecast, there is a closing
-pub closed_some : (policies : List Policy) (closings moments : List ℕ) (plans : List Plan) → ArePlans policies closings moments plans → versions_of plans ≢ [] → closings ≢ []
+pub closed_some : (policies : List AskedPolicy) (closings moments : List ℕ) (plans : List Plan) → ArePlans policies closings moments plans → versions_of plans ≢ [] → closings ≢ []
 closed_some policies closings moments [] are some none = some refl
 closed_some [] closings moments (plan ∷ plans) are some none = are
 closed_some (policy ∷ policies) closings moments (plan ∷ plans) are some none = some (no_forecasts plan.forecasts.items closings are.0.told.lives none)
 
--- more versions than have a row each are some
-some_told : (forecasts : List Forecast) → nat_lt 200 (length forecasts) ≡ true → forecasts ≢ []
-some_told [] many none = absurd cc
-some_told (told ∷ forecasts) many none = absurd cc
+-- if a drawing has curves, there is a policy
+pub drawn_some : (policies : List AskedPolicy) (closings moments : List ℕ) (plans : List Plan) → ArePlans policies closings moments plans → has_curves plans ≡ true → policies ≢ []
+drawn_some [] closings moments [] are drawn = absurd cc
+drawn_some [] closings moments (plan ∷ plans) are drawn = absurd are
+drawn_some (policy ∷ policies) closings moments plans are drawn = λ none. absurd cc
 
--- if a drawing has curves, the file has closed or there are several policies
-pub drawn_some : (policies : List Policy) (closings moments : List ℕ) (plans : List Plan) → ArePlans policies closings moments plans → has_curves plans ≡ true → (closings ≢ []) ⊎ (1 < length policies)
-drawn_some policies closings moments [] are drawn = absurd cc
-drawn_some (policy ∷ next ∷ policies) closings moments (plan ∷ other ∷ plans) are drawn = inr (omega arith)
-drawn_some policies closings moments (plan ∷ []) are drawn = inl (closed_some policies closings moments (plan ∷ []) are (some_told plan.forecasts.items drawn))
-drawn_some [] closings moments (plan ∷ other ∷ plans) are drawn = absurd are
-drawn_some (policy ∷ []) closings moments (plan ∷ other ∷ plans) are drawn = absurd are.1
-
-curved : (options : ForecastOptions) (closings : List ℕ) → (closings ≢ []) ⊎ (1 < length options.policies.items) → (closings ≢ []) ⊎ AsksMuch options
-curved options closings (inl some) = inl some
-curved options closings (inr many) = inr (inr (inl many))
+-- if there is a plan, there is a policy
+pub planned_some : (policies : List AskedPolicy) (closings moments : List ℕ) (plans : List Plan) → ArePlans policies closings moments plans → plans ≢ [] → policies ≢ []
+planned_some [] closings moments [] are some = absurd (some refl)
+planned_some [] closings moments (plan ∷ plans) are some = absurd are
+planned_some (policy ∷ policies) closings moments plans are some = λ none. absurd cc
 
 -- there was no memory for what the form shows
 pub unfound : (options : ForecastOptions) (closings : List ℕ) (plans : List Plan) → ArePlans options.policies.items closings options.moments.items plans → MayLack options plans → (closings ≢ []) ⊎ AsksMuch options
 unfound options closings plans are (inl rules) = inr (inr (inr rules))
-unfound options closings plans are (inr (inl some)) = inr (inl (asked options.policies.items closings options.moments.items plans are some))
-unfound options closings plans are (inr (inr (inl some))) = inl (closed_some options.policies.items closings options.moments.items plans are some)
-unfound options closings plans are (inr (inr (inr drawn))) = curved options closings (drawn_some options.policies.items closings options.moments.items plans are drawn)
+unfound options closings plans are (inr (inl some)) = inr (inl some)
+unfound options closings plans are (inr (inr (inl some))) = inr (inl (asked options.policies.items closings options.moments.items plans are some))
+unfound options closings plans are (inr (inr (inr (inl some)))) = inl (closed_some options.policies.items closings options.moments.items plans are some)
+unfound options closings plans are (inr (inr (inr (inr (inl drawn))))) = inr (inr (inl (drawn_some options.policies.items closings options.moments.items plans are drawn)))
+unfound options closings plans are (inr (inr (inr (inr (inr some))))) = inr (inr (inl (planned_some options.policies.items closings options.moments.items plans are some)))
+
+-- if the form shows bytes at some moment, there is a row or a plan
+pub shown_some : (form : Form) (sizes : Bool) (plans : List Plan) (rows : List Counts) → amount_moments form sizes plans rows ≢ [] → (rows ≢ []) ⊎ (plans ≢ [])
+shown_some Table sizes plans rows some = absurd (some refl)
+shown_some Drawing sizes plans rows some = absurd (some refl)
+shown_some BytesDrawing sizes [] rows some = absurd (some refl)
+shown_some BytesDrawing sizes (plan ∷ plans) rows some = inr (λ none. absurd cc)
+shown_some Due sizes plans rows some = absurd (some refl)
+shown_some Kept sizes plans rows some = absurd (some refl)
+shown_some Json sizes plans rows some = absurd (some refl)
+shown_some Csv sizes plans rows some = absurd (some refl)
+shown_some (Every step) false plans rows some = absurd (some refl)
+shown_some (Every step) true plans (row ∷ rows) some = inl (λ none. absurd cc)
+shown_some (Every step) true plans [] some = absurd (some refl)
+shown_some (EveryCsv step) sizes plans [] some = absurd (some refl)
+shown_some (EveryCsv step) sizes plans (row ∷ rows) some = inl (λ none. absurd cc)
 
 -- no rules keep nothing
 pub none_judged : (rules : List AskedRule) (rows : List Row) (moments : List ℕ) → (length rules == 0) ≡ true → AreJudged rules rows moments []
@@ -95,14 +112,6 @@ pub ruled_for : (named : Bool) (details : Details) (plans : List Plan) (moments 
 ruled_for named details plans moments [] e = absurd cc
 ruled_for named details plans moments (one ∷ others) e = refl
 
-pub json_for : (details : Details) (plans : List Plan) (judged : List Judged) → (length judged == 0) ≡ true → json_text details plans ≡ told_json details plans judged
-json_for details plans [] e = refl
-json_for details plans (one ∷ others) e = grind (arith, nat_tests)
-
-pub ruled_json_for : (details : Details) (plans : List Plan) (judged : List Judged) → (length judged == 0) ≡ false → ruled_json details plans judged ≡ told_json details plans judged
-ruled_json_for details plans [] e = absurd cc
-ruled_json_for details plans (one ∷ others) e = refl
-
 pub csv_for : (details : Details) (plans : List Plan) (judged : List Judged) → (length judged == 0) ≡ true → csv_text details plans ≡ told_csv details plans judged
 csv_for details plans [] e = refl
 csv_for details plans (one ∷ others) e = grind (arith, nat_tests)
@@ -110,12 +119,6 @@ csv_for details plans (one ∷ others) e = grind (arith, nat_tests)
 pub ruled_csv_for : (details : Details) (plans : List Plan) (judged : List Judged) → (length judged == 0) ≡ false → ruled_csv details plans judged ≡ told_csv details plans judged
 ruled_csv_for details plans [] e = absurd cc
 ruled_csv_for details plans (one ∷ others) e = refl
-
--- policies, if there are some and not one, are several
-pub several : (policies : List Policy) → length policies ≢ 1 → policies ≢ [] → 1 < length policies
-several [] one some = absurd (some refl)
-several (policy ∷ []) one some = absurd (one refl)
-several (policy ∷ next ∷ policies) one some = omega arith
 
 -- the output for plans is a forecast of what was read
 pub is_text : (options : ForecastOptions) (read : ReadLines) (plans : List Plan) (found : Found) → IsOfForm options read → ArePlans options.policies.items read.closings options.moments.items plans
@@ -133,6 +136,9 @@ is_text options read plans found form are short found_is =
         judged = found_is.judged;
         listed = found_is.listed;
         counts = subst (λ (closings : List ℕ). AreRows options.form closings plans found.counts.items) form.closings found_is.counts;
+        amounts = subst (λ (closings : List ℕ). AreAmountsAt (amount_moments options.form options.sizes plans found.counts.items) closings read.details.sizes.items plans found.amounts.items) form.closings found_is.amounts;
+        bytes = found_is.bytes;
+        removals = found_is.removals;
       };
       text_is = refl;
     }

@@ -8,13 +8,13 @@ use Rattle.ele_moment.specs.Number.{SpellsNumber}
 use Rattle.ele_tool_words.specs.ByClock.{SpellsBy}
 use Rattle.ele_tool_words.specs.declared.zone.Offset.{Offset}
 use Rattle.ele_tool_words.specs.declared.zone.Offset.TheVariants.{Ahead, Behind}
-use Rattle.ele_peer_rules.specs.Kinds.{kind_of}
-use Rattle.ele_peer_rules.specs.Shown.{IsRow, IsShown}
-use Rattle.ele_peer_rules.specs.declared.row.Offset.{Offset as InSeconds}
-use Rattle.ele_peer_rules.specs.declared.row.Offset.TheVariants as seconds
-use Rattle.ele_peer_rules.specs.declared.row.Row.{Row}
-use Rattle.ele_peer_rules.specs.declared.span.Span.{Span}
-use Rattle.ele_peer_rules.specs.declared.span.Span.TheVariants.{Each}
+use Rattle.ele_rule_parts.specs.Kinds.{kind_of}
+use Rattle.ele_rule_parts.specs.Shown.{IsRow, IsShown}
+use Rattle.ele_rule_parts.specs.declared.row.Offset.{Offset as InSeconds}
+use Rattle.ele_rule_parts.specs.declared.row.Offset.TheVariants as seconds
+use Rattle.ele_rule_parts.specs.declared.row.Row.{Row}
+use Rattle.ele_rule_parts.specs.declared.span.Span.{Span}
+use Rattle.ele_rule_parts.specs.declared.span.Span.TheVariants.{Each}
 use Rattle.ele_output.specs.Line.{line_text}
 use Rattle.ele_outlook.specs.declared.fault.BadLine.{BadLine}
 use Rattle.ele_outlook.specs.declared.fault.BadLine.TheVariants.{NotMoment, NoSize, NoLabel, NotUtf8, NotShown, OutOfOrder}

@@ -1,4 +1,5 @@
 pub mod Input
 pub mod Reading
 pub mod Told
+pub mod Unplaced
 pub mod Foretold

@@ -10,9 +10,10 @@ use Rattle.ele_forecast_text.specs.declared.plan.Plan.{Plan}
 use Rattle.ele_svg.specs.Drawing.{has_curves}
 use Rattle.ele_forecast_text.specs.declared.details.Details.{Details}
 use Rattle.ele_outlook.specs.Input.{HasFields, HasSize, IsBad, IsFirstBad, SpellRows, SpellsLine, closings_of, label_of, labels_of, lines_of, size_words_of}
-use Rattle.ele_outlook.specs.Told.{AreDetails, AreRows, AsksMuch, IsForecastText, IsOver, line_form, listed_numbers, stayings_of, texts_of}
-use Rattle.ele_peer_rules.specs.declared.row.Row.{Row}
+use Rattle.ele_outlook.specs.Told.{AreDetails, AreDrawn, AreFreed, AreRows, AsksMuch, IsForecastText, IsOver, amount_moments, has_removals, line_form, listed_numbers, stayings_of, texts_of}
+use Rattle.ele_rule_parts.specs.declared.row.Row.{Row}
 use Rattle.ele_rule_forecast.specs.Judged.{AreJudged}
+use Rattle.ele_space.specs.Amounts.{AreAmountsAt}
 use Rattle.ele_outlook.specs.declared.found.Found.{Found}
 use Rattle.ele_outlook.specs.declared.input.ReadLines.{ReadLines}
 use Rattle.ele_outlook.specs.declared.options.ForecastOptions.{ForecastOptions}
@@ -128,10 +129,13 @@ pub record IsFoundIn (options : ForecastOptions) (read : ReadLines) (plans : Lis
   pub judged : AreJudged options.rules.items read.rows.items options.moments.items found.judged.items
   pub listed : found.listed.items ≡ listed_numbers options.form plans
   pub counts : AreRows options.form read.closings plans found.counts.items
+  pub amounts : AreAmountsAt (amount_moments options.form options.sizes plans found.counts.items) read.closings read.details.sizes.items plans found.amounts.items
+  pub bytes : AreDrawn options.form found.amounts.items found.bytes.items
+  pub removals : AreFreed (has_removals options) plans found.removals.items
 
--- there are rules, or a plan with moments, versions or curves
+-- there are rules, moments or plans, or a plan with moments, versions or curves
 abbrev pub MayLack : ForecastOptions → List Plan → Type 0
-MayLack options plans = (options.rules.items ≢ []) ⊎ (stayings_of plans ≢ []) ⊎ (versions_of plans ≢ []) ⊎ (has_curves plans ≡ true)
+MayLack options plans = (options.rules.items ≢ []) ⊎ (options.moments.items ≢ []) ⊎ (stayings_of plans ≢ []) ⊎ (versions_of plans ≢ []) ⊎ (has_curves plans ≡ true) ⊎ (plans ≢ [])
 
 -- what was read has the fields that the options want, and its closings are those of its rows
 pub record IsOfForm (options : ForecastOptions) (read : ReadLines) : Type 0 where

@@ -2,10 +2,12 @@
 ghost use Rattle.std.specs.Prelude.{◌≡◌, ◌≢◌, ◌⊎◌, true, [], IfOk, OnErr};
 ghost use Rattle.ele_forecast_text.specs.Plan.{versions_of};
 ghost use Rattle.ele_rule_forecast.specs.Judged.{AreJudged};
+ghost use Rattle.ele_space.specs.Amounts.{AreAmountsAt};
 ghost use Rattle.ele_svg.specs.Drawing.{has_curves};
 ghost use Rattle.ele_outlook.specs.Reading.{IsFoundIn, MayLack};
-ghost use Rattle.ele_outlook.specs.Told.{AreRows, listed_numbers, numbers_at, stayings_of};
+ghost use Rattle.ele_outlook.specs.Told.{AreDrawn, AreFreed, AreRows, amount_moments, has_removals, listed_numbers, moments_if, numbers_at, points_of, stayings_of};
 
+use crate::drawn::byte_rows;
 use crate::input::ReadLines;
 use crate::options::{ForecastOptions, Form};
 use ele_forecast::{Closings, Forecast};
@@ -14,7 +16,8 @@ use ele_forecast_text::{Plan, Staying, listed_at};
 use ele_moment::{Moment, NoMemory, VersionNo};
 use ele_peer_rules::Row;
 use ele_rule_forecast::{AskedRule, Judged, judge};
-use ele_svg::drawing_counts;
+use ele_space::{Amounts, Removals, amounts_at, moments_in, removals_of};
+use ele_svg::{curve_moments, drawing_counts};
 use std::alloc::Global;
 
 /// What a form shows of versions beside their plans.
@@ -26,6 +29,12 @@ pub struct Found {
     pub listed: Vec<VersionNo>,
     /// The counts of a table over time or of a drawing's curves.
     pub counts: Vec<Counts>,
+    /// The bytes at the moments at which the form shows them.
+    pub amounts: Vec<Amounts>,
+    /// These bytes as the points of a drawing's curves.
+    pub bytes: Vec<Counts>,
+    /// What the removals under each policy free, at each moment that is asked about.
+    pub removals: Vec<Removals>,
 }
 
 /// Returns what the form shows of versions beside their plans. `NoMemory` if memory is refused.
@@ -46,10 +55,16 @@ pub(crate) fn find(
     )?;
     let listed = listed(alloc, options.form, plans)?;
     let counts = counted(alloc, options.form, &read.closings, plans)?;
+    let amounts = summed(alloc, options, read, plans, counts.as_slice())?;
+    let bytes = drawn(alloc, options.form, amounts.as_slice())?;
+    let removals = freed(alloc, options, plans)?;
     Ok(Found {
         judged,
         listed,
         counts,
+        amounts,
+        bytes,
+        removals,
     })
 }
 
@@ -80,10 +95,117 @@ fn counted(
     ensures err { OnErr result ((versions_of plans.now ≢ []) ⊎ (has_curves plans.now ≡ true)) }
 {
     match form {
-        Form::Every(step) => counts_every(alloc, step, closings, plans),
+        Form::Every(step) | Form::EveryCsv(step) => counts_every(alloc, step, closings, plans),
         Form::Drawing => drawing_counts(alloc, closings, plans),
-        Form::Table | Form::Due | Form::Kept | Form::Json | Form::Csv => Ok(Vec::new(alloc)),
+        Form::Table | Form::BytesDrawing | Form::Due | Form::Kept | Form::Json | Form::Csv => {
+            Ok(Vec::new(alloc))
+        }
     }
+}
+
+// Returns the moments of these counts, if a table over time has bytes.
+fn moments_if(alloc: Global, wanted: bool, counts: &[Counts]) -> Result<Vec<Moment>, NoMemory>
+    ensures ok { IfOk result (λ moments. moments.items ≡ moments_if wanted counts.now) }
+    ensures err { OnErr result ((wanted ≡ true) × (counts.now ≢ [])) }
+{
+    if wanted {
+        moments_in(alloc, counts)
+    } else {
+        Ok(Vec::new(alloc))
+    }
+}
+
+// Returns the moments of the points of the curves, if there is a policy.
+fn points_of(alloc: Global, plans: &[Plan]) -> Result<Vec<Moment>, NoMemory>
+    ensures ok { IfOk result (λ moments. moments.items ≡ points_of plans.now) }
+    ensures err { OnErr result (plans.now ≢ []) }
+{
+    if plans.is_empty() {
+        Ok(Vec::new(alloc))
+    } else {
+        curve_moments(alloc, plans)
+    }
+}
+
+// Returns the moments at which the form shows the bytes that stay.
+fn amount_moments(
+    alloc: Global,
+    options: &ForecastOptions,
+    plans: &[Plan],
+    counts: &[Counts],
+) -> Result<Vec<Moment>, NoMemory>
+    ensures ok { IfOk result (λ moments. moments.items
+        ≡ amount_moments options.now.form options.now.sizes plans.now counts.now) }
+    ensures err { OnErr result ((counts.now ≢ []) ⊎ (plans.now ≢ [])) }
+{
+    match options.form {
+        Form::Every(_) => moments_if(alloc, options.sizes, counts),
+        Form::EveryCsv(_) => moments_if(alloc, true, counts),
+        Form::BytesDrawing => points_of(alloc, plans),
+        Form::Table | Form::Drawing | Form::Due | Form::Kept | Form::Json | Form::Csv => {
+            Ok(Vec::new(alloc))
+        }
+    }
+}
+
+// Returns the bytes at the moments at which the form shows them.
+fn summed(
+    alloc: Global,
+    options: &ForecastOptions,
+    read: &ReadLines,
+    plans: &[Plan],
+    counts: &[Counts],
+) -> Result<Vec<Amounts>, NoMemory>
+    ensures ok { IfOk result (λ amounts. AreAmountsAt
+        (amount_moments options.now.form options.now.sizes plans.now counts.now)
+        read.now.closings read.now.details.sizes.items plans.now amounts.items) }
+    ensures err { OnErr result ((counts.now ≢ []) ⊎ (plans.now ≢ [])) }
+{
+    let moments = amount_moments(alloc, options, plans, counts)?;
+    let sizes = read.details.sizes.as_slice();
+    amounts_at(alloc, moments.as_slice(), &read.closings, sizes, plans)
+}
+
+// Returns the points of the curves of a drawing of bytes.
+fn drawn(alloc: Global, form: Form, amounts: &[Amounts]) -> Result<Vec<Counts>, NoMemory>
+    ensures ok { IfOk result (λ drawn. AreDrawn form amounts.now drawn.items) }
+    ensures err { OnErr result (amounts.now ≢ []) }
+{
+    match form {
+        Form::BytesDrawing => byte_rows(alloc, amounts),
+        Form::Table
+        | Form::Drawing
+        | Form::Due
+        | Form::Kept
+        | Form::Json
+        | Form::Csv
+        | Form::Every(_)
+        | Form::EveryCsv(_) => Ok(Vec::new(alloc)),
+    }
+}
+
+// Returns what the removals under each plan free, if the form has it.
+fn freed(
+    alloc: Global,
+    options: &ForecastOptions,
+    plans: &[Plan],
+) -> Result<Vec<Removals>, NoMemory>
+    ensures ok { IfOk result
+        (λ removals. AreFreed (has_removals options.now) plans.now removals.items) }
+    ensures err { OnErr result (options.now.moments.items ≢ []) }
+{
+    if has_removals(options) {
+        removals_of(alloc, plans)
+    } else {
+        Ok(Vec::new(alloc))
+    }
+}
+
+// Whether the form has what the removals free.
+fn has_removals(options: &ForecastOptions) -> bool
+    ensures { result ≡ has_removals options.now }
+{
+    matches!(options.form, Form::Table | Form::Json) && options.sizes && !options.moments.is_empty()
 }
 
 // Returns the numbers of the versions that the form lists.
@@ -117,9 +239,13 @@ fn listed_of(
         return Ok(Vec::new(alloc));
     };
     match form {
-        Form::Table | Form::Drawing | Form::Json | Form::Csv | Form::Every(_) => {
-            Ok(Vec::new(alloc))
-        }
+        Form::Table
+        | Form::Drawing
+        | Form::BytesDrawing
+        | Form::Json
+        | Form::Csv
+        | Form::Every(_)
+        | Form::EveryCsv(_) => Ok(Vec::new(alloc)),
         Form::Due => listed_at(alloc, false, forecasts, staying),
         Form::Kept => listed_at(alloc, true, forecasts, staying),
     }

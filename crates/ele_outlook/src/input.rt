@@ -111,8 +111,8 @@ fn add_last(
     Ok(read)
 }
 
-// Returns the place of the first line feed.
-fn line_end(bytes: &[u8]) -> Option<usize>
+/// Returns the place of the first line feed.
+pub(crate) fn line_end(bytes: &[u8]) -> Option<usize>
     ensures { IsFirstByte (is_byte 10) bytes.now result }
 {
     memchr(b'\n', bytes)

@@ -3,6 +3,7 @@
 //! forecasts, and a reader and a writer as the bytes that they are known to hold.
 #![tactic(auto)]
 
+mod drawn;
 mod fault;
 mod fields;
 mod found;
@@ -10,7 +11,9 @@ mod input;
 mod options;
 mod row;
 mod telling;
+mod unplaced;
 
+pub use ele_forecast_text::AskedPolicy;
 pub use fault::{BadLine, ForecastFault, put_bad_line};
 pub use options::{ForecastOptions, Form, LineForm, MOST_POLICIES};
 pub use telling::write_forecast;

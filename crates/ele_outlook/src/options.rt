@@ -2,9 +2,8 @@
 ghost use Rattle.std.specs.Prelude.{◌≡◌};
 ghost use Rattle.ele_outlook.specs.Told.{line_form};
 
-use ele_forecast_text::Columns;
+use ele_forecast_text::{AskedPolicy, Columns};
 use ele_moment::Moment;
-use ele_policy::Policy;
 use ele_rule_forecast::AskedRule;
 use ele_tool_words::Offset;
 
@@ -13,8 +12,10 @@ use ele_tool_words::Offset;
 pub enum Form {
     /// A line for each version, and one for each given moment.
     Table,
-    /// An SVG drawing.
+    /// An SVG drawing of how many versions stay, or of each version.
     Drawing,
+    /// An SVG drawing of the bytes that stay.
+    BytesDrawing,
     /// The names of the versions that are due at the first of the moments, one a line. A name is a
     /// label, or a number if there is none.
     Due,
@@ -25,8 +26,11 @@ pub enum Form {
     /// A heading, and a row for each version.
     Csv,
     /// The number of versions that each policy keeps at moments from the first closing on. The moments
-    /// are this many seconds apart, at most 400 of them.
+    /// are this many seconds apart, at most 400 of them. With sizes also the bytes that are kept, and those
+    /// that the removals up to then free.
     Every(u64),
+    /// The same as CSV.
+    EveryCsv(u64),
 }
 
 /// The most policies that a forecast compares.
@@ -36,14 +40,14 @@ pub const MOST_POLICIES: usize = 16;
 /// the versions that stay, the fields of its input and the form of its output.
 #[derive(Drop)]
 pub struct ForecastOptions {
-    pub policies: Vec<Policy>,
+    pub policies: Vec<AskedPolicy>,
     /// Whether the table of one policy begins with a line with its name.
     pub named: bool,
     pub moments: Vec<Moment>,
     /// The rules of other tools beside the policies. Only a table, JSON and CSV have these.
     pub rules: Vec<AskedRule>,
-    /// The clock of each time that names no offset.
-    pub clock: Offset,
+    /// The clock of each time that names no offset. None means that of UTC.
+    pub clock: Option<Offset>,
     /// Whether each line has a label after its time.
     pub labels: bool,
     /// Whether each line has a size after its time and before its label.
@@ -74,6 +78,6 @@ pub(crate) fn line_form(options: &ForecastOptions) -> LineForm
             sizes: options.sizes,
         },
         texts: matches!(options.form, Form::Json),
-        clock: options.clock,
+        clock: options.clock.unwrap_or(Offset::Ahead(0)),
     }
 }

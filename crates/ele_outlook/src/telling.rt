@@ -5,18 +5,19 @@ ghost use Rattle.ele_output.specs.Prints.{Prints};
 ghost use Rattle.ele_forecast_text.specs.Plan.{ArePlans};
 ghost use Rattle.ele_outlook.specs.Foretold.{Foretells, TellsForecast};
 ghost use Rattle.ele_outlook.specs.Reading.{IsOfForm, TellsRead};
-ghost use Rattle.ele_outlook.specs.Told.{is_over, plain_table, policy_line, told_csv, told_json, told_of, told_table};
+ghost use Rattle.ele_outlook.specs.Told.{freed_table, is_over, names_policies, plain_table, policy_line, removals_part, rules_part, told_csv, told_json, told_of, told_over_time, told_table};
 
 use crate::fault::ForecastFault;
 use crate::found::{Found, find};
 use crate::input::{ReadLines, read_input, read_lines};
 use crate::options::{ForecastOptions, Form, line_form};
-use ele_forecast_forms::{is_too_long, put_compared, put_csv, put_json, put_over_time};
-use ele_forecast_text::{Details, Plan, plan_of, plans_of, put_names, put_policy, put_table};
+use crate::unplaced::is_unplaced;
+use ele_forecast_forms::{is_too_long, put_compared, put_csv, put_json_members, put_over_time};
+use ele_forecast_text::{Details, Plan, plans_of, put_names, put_policy, put_table};
 use ele_output::{Printer, WriteFault};
-use ele_policy::Policy;
-use ele_rule_forecast::{Judged, put_ruled, put_ruled_csv, put_ruled_json};
-use ele_svg::put_drawing;
+use ele_rule_forecast::{Judged, put_ruled, put_ruled_csv, put_rules_member};
+use ele_space::{Removals, put_amounts, put_amounts_csv, put_removals, put_removals_member};
+use ele_svg::{put_bytes_drawing, put_drawing};
 use std::alloc::Global;
 use std::io::{Read, Write};
 
@@ -24,6 +25,8 @@ use std::io::{Read, Write};
 /// and a label if the options want these. Writes what becomes of the versions under each policy, and
 /// which stay at each moment, in the form of the options. Flushes the writer. The last line may lack
 /// its line feed.
+///
+/// Returns whether times that name no offset were read as UTC, since the options have no clock.
 ///
 /// Only `WriteFault` leaves output behind:
 /// - ReadFault: the reader failed. An interrupted read is repeated.
@@ -37,12 +40,13 @@ pub fn write_forecast<R: Read, W: Write>(
     options: &ForecastOptions,
     reader: &mut R,
     writer: &mut W,
-) -> Result<(), ForecastFault>
+) -> Result<bool, ForecastFault>
     ensures { Foretells options.now (R.remaining reader.old) (R.remaining reader.new)
         (W.contents writer.old) (W.contents writer.new) result }
 {
     let input = read_input(alloc, reader)?;
-    tell(alloc, options, input.as_slice(), writer)
+    tell(alloc, options, input.as_slice(), writer)?;
+    Ok(is_unplaced(options, input.as_slice()))
 }
 
 // Writes the forecast of the closings in the input.
@@ -67,28 +71,6 @@ fn tell_read<W: Write>(
     writer: &mut W,
 ) -> Result<(), ForecastFault>
     requires { IsOfForm options.now read.now }
-    ensures { TellsRead options.now read.now (W.contents writer.old) (W.contents writer.new) result }
-{
-    let moments = options.moments.as_slice();
-    let Some(policy) = only_policy(options.policies.as_slice()) else {
-        return tell_several(alloc, options, read, writer);
-    };
-    let Ok(plan) = plan_of(alloc, policy, &read.closings, moments) else {
-        return Err(ForecastFault::NoMemory);
-    };
-    let plans = [plan];
-    tell_plans(alloc, options, read, &plans, writer)
-}
-
-// Writes the forecast of what was read under several policies, or none.
-fn tell_several<W: Write>(
-    alloc: Global,
-    options: &ForecastOptions,
-    read: &ReadLines,
-    writer: &mut W,
-) -> Result<(), ForecastFault>
-    requires form { IsOfForm options.now read.now }
-    requires several { length options.now.policies.items ≢ 1 }
     ensures { TellsRead options.now read.now (W.contents writer.old) (W.contents writer.new) result }
 {
     let policies = options.policies.as_slice();
@@ -126,20 +108,14 @@ fn is_over(form: Form, plans: &[Plan]) -> bool
     ensures { result ≡ is_over form plans.now }
 {
     match form {
-        Form::Every(step) => is_too_long(step, plans),
-        Form::Table | Form::Drawing | Form::Due | Form::Kept | Form::Json | Form::Csv => false,
-    }
-}
-
-// Returns the policy if there is only one.
-fn only_policy(policies: &[Policy]) -> Option<&Policy>
-    ensures { MatchOption result (length policies.now ≢ 1)
-        (λ policy. policies.now ≡ policy.now ∷ []) }
-{
-    if policies.len() == 1 {
-        policies.first()
-    } else {
-        None
+        Form::Every(step) | Form::EveryCsv(step) => is_too_long(step, plans),
+        Form::Table
+        | Form::Drawing
+        | Form::BytesDrawing
+        | Form::Due
+        | Form::Kept
+        | Form::Json
+        | Form::Csv => false,
     }
 }
 
@@ -185,15 +161,66 @@ fn put_told<W: Write>(
     let judged = found.judged.as_slice();
     let counts = found.counts.as_slice();
     match options.form {
-        Form::Table => put_told_table(options, details, plans, judged, printer),
+        Form::Table => put_freed_table(options, details, plans, found, printer),
         Form::Drawing => put_drawing(options.title.as_slice(), plans, counts, printer),
+        Form::BytesDrawing => {
+            put_bytes_drawing(
+                options.title.as_slice(),
+                plans,
+                found.bytes.as_slice(),
+                printer,
+            );
+        }
         Form::Due | Form::Kept => {
             put_names(details.labels.as_slice(), found.listed.as_slice(), printer);
         }
-        Form::Json => put_told_json(details, plans, judged, printer),
+        Form::Json => put_told_json(details, plans, judged, found.removals.as_slice(), printer),
         Form::Csv => put_told_csv(details, plans, judged, printer),
-        Form::Every(_) => put_over_time(plans, counts, printer),
+        Form::Every(_) => put_told_over_time(options.sizes, plans, found, printer),
+        Form::EveryCsv(_) => {
+            put_amounts_csv(options.sizes, plans, found.amounts.as_slice(), printer);
+        }
     }
+}
+
+// Prints a table over time, with bytes if versions have sizes.
+fn put_told_over_time<W: Write>(
+    sizes: bool,
+    plans: &[Plan],
+    found: &Found,
+    printer: &mut Printer<'_, W>,
+)
+    ensures { Prints W.contents printer.old printer.new (told_over_time sizes plans.now found.now) }
+{
+    if sizes {
+        put_amounts(plans, found.amounts.as_slice(), printer);
+    } else {
+        put_over_time(plans, found.counts.as_slice(), printer);
+    }
+}
+
+// Prints the table, and what the removals free.
+fn put_freed_table<W: Write>(
+    options: &ForecastOptions,
+    details: &Details,
+    plans: &[Plan],
+    found: &Found,
+    printer: &mut Printer<'_, W>,
+)
+    ensures { Prints W.contents printer.old printer.new
+        (freed_table options.now details.now plans.now found.now) }
+{
+    let judged = found.judged.as_slice();
+    let named = names_policies(plans, judged);
+    put_told_table(options, details, plans, judged, printer);
+    put_removals(named, details, found.removals.as_slice(), printer);
+}
+
+// Whether policies are named: beside others, and beside rules.
+fn names_policies(plans: &[Plan], judged: &[Judged]) -> bool
+    ensures { result ≡ names_policies plans.now judged.now }
+{
+    !judged.is_empty() || plans.len() > 1
 }
 
 // Prints the table of policies, with what rules keep if there are rules.
@@ -245,19 +272,47 @@ fn put_policy_line<W: Write>(named: bool, plan: &Plan, printer: &mut Printer<'_,
     }
 }
 
-// Prints JSON, with what rules keep if there are rules.
+// Prints JSON, with what rules keep and removals free, if there are some.
 fn put_told_json<W: Write>(
+    details: &Details,
+    plans: &[Plan],
+    judged: &[Judged],
+    removals: &[Removals],
+    printer: &mut Printer<'_, W>,
+)
+    ensures { Prints W.contents printer.old printer.new
+        (told_json details.now plans.now judged.now removals.now) }
+{
+    printer.put(b"{");
+    put_rules_part(details, plans, judged, printer);
+    put_removals_part(details, removals, printer);
+    put_json_members(details, plans, printer);
+}
+
+// Prints the rules of an object, if there are some.
+fn put_rules_part<W: Write>(
     details: &Details,
     plans: &[Plan],
     judged: &[Judged],
     printer: &mut Printer<'_, W>,
 )
-    ensures { Prints W.contents printer.old printer.new (told_json details.now plans.now judged.now) }
+    ensures { Prints W.contents printer.old printer.new (rules_part details.now plans.now judged.now) }
 {
-    if judged.is_empty() {
-        put_json(details, plans, printer);
-    } else {
-        put_ruled_json(details, plans, judged, printer);
+    if !judged.is_empty() {
+        put_rules_member(details, plans, judged, printer);
+    }
+}
+
+// Prints the removals of an object, if there are some.
+fn put_removals_part<W: Write>(
+    details: &Details,
+    removals: &[Removals],
+    printer: &mut Printer<'_, W>,
+)
+    ensures { Prints W.contents printer.old printer.new (removals_part details.now removals.now) }
+{
+    if !removals.is_empty() {
+        put_removals_member(details, removals, printer);
     }
 }
 

@@ -1,10 +1,10 @@
 -- The parts that options spell, one after another: a word spells one part at most.
-use Rattle.std.proofs.Common.{◌≡◌, ℕ, zero, suc, ◌+◌, ◌<◌, ◌≤◌, ◌==◌, Bool, false, List, [], ◌∷◌, ◌++◌, length, take, get_or, Result, Ok, Err, refl, sym, ap, subst, ◌∙◌, arith}
+use Rattle.std.proofs.Common.{◌≡◌, ℕ, zero, suc, ◌+◌, ◌<◌, ◌≤◌, ◌==◌, Bool, false, List, [], ◌∷◌, ◌++◌, length, take, get_or, Option, Some, None, Result, Ok, Err, refl, sym, ap, subst, ◌∙◌, arith}
 use Rattle.std.specs.Prelude.{◌⊎◌}
 use Rattle.std.proofs.lemmas.Bool.Decides.{nat_tests}
 use Rattle.std.specs.List.{AllZip}
-use Rattle.ele_peer_rules.specs.declared.part.Part.{Part}
-use Rattle.ele_peer_rules.specs.declared.part.Tool.{Tool}
+use Rattle.ele_rule_parts.specs.declared.part.Part.{Part}
+use Rattle.ele_peer_rules.specs.declared.tool.Tool.{Tool}
 use Rattle.ele_peer_rules.specs.declared.reading.Wrong.{Wrong}
 use Rattle.ele_peer_rules.specs.declared.reading.RuleFault.{RuleFault}
 use Rattle.ele_peer_rules.specs.Faults.{IsFirstWrong, IsRepeated, IsUnspelled}
@@ -76,7 +76,14 @@ apart_push before (k ∷ kept) part apart new = (apart.0, apart_push (before ++ 
 pub same_ok : (a b : Part) → ◌≡◌ {A = Result Part Wrong} (Ok a) (Ok b) → a ≡ b
 same_ok a b e = cc
 
-pub room : (n : ℕ) (full : Bool) → full ≡ (n == 16) → full ≡ false → n ≤ 16 → n < 16
+-- what is found of an option is what its result says
+pub found_ok : (found part : Part) → ◌≡◌ {A = Option Part} (Some found) (Some part) → ◌≡◌ {A = Result Part Wrong} (Ok found) (Ok part)
+found_ok found part e = cc
+
+pub none_ok : (wrong : Wrong) (part : Part) → ◌≡◌ {A = Option Part} None (Some part) → ◌≡◌ {A = Result Part Wrong} (Err wrong) (Ok part)
+none_ok wrong part e = absurd cc
+
+pub room : (n : ℕ) (full : Bool) → full ≡ (n == 18) → full ≡ false → n ≤ 18 → n < 18
 room n full is other le = grind (arith, nat_tests)
 
 pub no_part : (wrong : Wrong) (part : Part) → ◌≡◌ {A = Result Part Wrong} (Err wrong) (Ok part) → ⊥

@@ -1,8 +1,6 @@
-pub mod Shown
+pub mod Ways
 pub mod Within
-pub mod Spans
 pub mod Marks
 pub mod Kept
 pub mod Words
-pub mod Kinds
 pub mod Faults

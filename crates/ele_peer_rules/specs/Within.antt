@@ -1,13 +1,9 @@
 -- Which rows lie within a length of time before a moment.
-use Rattle.std.specs.Prelude.{ℕ, ◌+◌, ◌-◌, ◌*◌, ◌/◌, ◌%◌, nat_lt, Bool, ◌||◌, pos, unsigned_abs}
-use Rattle.jiff_core.specs.Calendar.{days_from_civil}
-use Rattle.ele_peer_rules.specs.declared.row.Row.{Row}
-use Rattle.ele_peer_rules.specs.declared.limit.Reach.{Reach}
+use Rattle.std.specs.Prelude.{ℕ, ◌+◌, ◌-◌, ◌*◌, nat_lt, Bool, ◌||◌}
+use Rattle.ele_rule_parts.specs.Months.{month_start}
+use Rattle.ele_rule_parts.specs.declared.row.Row.{Row}
+use Rattle.ele_rule_parts.specs.declared.part.Reach.{Reach}
 use Rattle.ele_peer_rules.specs.declared.limit.Since.{Since}
-
--- the days from 1970-01-01 to the first of a month, which is counted from January 1970
-abbrev pub month_start : ℕ → ℕ
-month_start month = unsigned_abs (days_from_civil (pos (1970 + month / 12)) (month % 12 + 1) 1)
 
 -- the seconds of so many months before that one, as the same day of the month and the same time of day are apart, and a day
 -- that the earlier month hasn't is one of the next

@@ -4,19 +4,19 @@ use Rattle.std.specs.Option.{option_or}
 use Rattle.std.specs.List.{AllZip, after_first, before_first, list_any, slice_split}
 use Rattle.std.specs.Str.{bytes_eq}
 use Rattle.ele_moment.specs.Number.{SpellsNumber}
-use Rattle.ele_peer_rules.specs.declared.limit.Limit.{Limit}
-use Rattle.ele_peer_rules.specs.declared.limit.Limit.TheVariants.{Number, All, Within}
-use Rattle.ele_peer_rules.specs.declared.limit.Reach.{Reach}
-use Rattle.ele_peer_rules.specs.declared.part.Part.{Part}
-use Rattle.ele_peer_rules.specs.declared.part.Tool.{Tool}
-use Rattle.ele_peer_rules.specs.declared.part.Tool.TheVariants.{Restic, OldRestic, Borg, Snapper, Sanoid}
+use Rattle.ele_rule_parts.specs.declared.part.Limit.{Limit}
+use Rattle.ele_rule_parts.specs.declared.part.Limit.TheVariants.{Number, All, Within, Ago, Begin}
+use Rattle.ele_rule_parts.specs.declared.part.Reach.{Reach}
+use Rattle.ele_rule_parts.specs.declared.part.Part.{Part}
+use Rattle.ele_peer_rules.specs.declared.tool.Tool.{Tool}
+use Rattle.ele_peer_rules.specs.declared.tool.Tool.TheVariants.{Restic, OldRestic, Borg, Snapper, Sanoid, Btrbk}
 use Rattle.ele_peer_rules.specs.declared.names.Slot.{Slot}
-use Rattle.ele_peer_rules.specs.declared.span.Span.TheVariants.{Each, Second, Minute, Hour, Day, Week, Month, Year}
+use Rattle.ele_rule_parts.specs.declared.span.Span.TheVariants.{Each, Second, Minute, Hour, Day, Week, Month, Year}
+use Rattle.ele_rule_parts.specs.Marked.{is_mark}
+use Rattle.ele_btrbk_rules.specs.Items.{SpellsItem}
+use Rattle.ele_peer_rules.specs.declared.ways.Ways.{Ways}
 use Rattle.ele_peer_rules.specs.Kept.{rank_of}
-
--- a byte is the mark
-abbrev pub is_mark : ℕ → ℕ → Bool
-is_mark mark byte = byte == mark
+use Rattle.ele_peer_rules.specs.Ways.{ways_of}
 
 abbrev pub tool_of : List ℕ → Option Tool
 tool_of name =
@@ -24,7 +24,8 @@ tool_of name =
     else (if bytes_eq name (codes "restic-0.15") then Some OldRestic
     else (if bytes_eq name (codes "borg") then Some Borg
     else (if bytes_eq name (codes "snapper") then Some Snapper
-    else (if bytes_eq name (codes "sanoid") then Some Sanoid else None))))
+    else (if bytes_eq name (codes "sanoid") then Some Sanoid
+    else (if bytes_eq name (codes "btrbk") then Some Btrbk else None)))))
 
 -- options of restic and borg
 abbrev pub shared_slot : List ℕ → Option Slot
@@ -77,6 +78,7 @@ slot_of OldRestic name = option_or (shared_slot name) (restic_slot name)
 slot_of Borg name = option_or (shared_slot name) (borg_slot name)
 slot_of Snapper name = snapper_slot name
 slot_of Sanoid name = sanoid_slot name
+slot_of Btrbk name = None
 
 -- the value for all rows
 abbrev pub is_all : List ℕ → Bool
@@ -89,6 +91,7 @@ means_all OldRestic text = is_all text
 means_all Borg text = is_all text
 means_all Snapper text = false
 means_all Sanoid text = false
+means_all Btrbk text = false
 
 -- a number from 1 on
 pub record SpellsSome (text : List ℕ) (n : ℕ) : Type 0 where
@@ -102,6 +105,7 @@ SpellsRows OldRestic text n = SpellsSome text n
 SpellsRows Borg text n = SpellsSome text n
 SpellsRows Snapper text n = SpellsNumber text n
 SpellsRows Sanoid text n = SpellsNumber text n
+SpellsRows Btrbk text n = SpellsNumber text n
 
 -- the number before a letter, and the rest behind it, or 0 where the letter isn't there
 abbrev pub SpellsCount : Bool → ℕ → List ℕ → ℕ → List ℕ → Type 0
@@ -159,23 +163,36 @@ SpellsReach OldRestic word reach = SpellsRestic word reach
 SpellsReach Borg word reach = SpellsBorg word reach
 SpellsReach Snapper word reach = SpellsSeconds word reach
 SpellsReach Sanoid word reach = ⊥
+SpellsReach Btrbk word reach = ⊥
 
 -- the value of an option: a length of time, or how many rows
 abbrev pub SpellsLimit : Tool → Bool → List ℕ → Limit → Type 0
 SpellsLimit tool true text (Number n) = ⊥
 SpellsLimit tool true text All = ⊥
 SpellsLimit tool true text (Within reach) = SpellsReach tool text reach
+SpellsLimit tool true text (Ago n) = ⊥
+SpellsLimit tool true text (Begin n) = ⊥
 SpellsLimit tool false text (Number n) = (means_all tool text ≡ false) × SpellsRows tool text n
 SpellsLimit tool false text All = means_all tool text ≡ true
 SpellsLimit tool false text (Within reach) = ⊥
+SpellsLimit tool false text (Ago n) = ⊥
+SpellsLimit tool false text (Begin n) = ⊥
 
 -- an option of the tool, an equals sign (61) and its value
-pub record SpellsPart (tool : Tool) (word : List ℕ) (part : Part) : Type 0 where
+pub record SpellsOption (tool : Tool) (word : List ℕ) (part : Part) : Type 0 where
   pub slot : Slot
   pub equals : list_any (is_mark 61) word ≡ true
   pub slot_is : slot_of tool (before_first (is_mark 61) word) ≡ Some slot
   pub span : part.span ≡ slot.span
   pub limit : SpellsLimit tool slot.within (after_first (is_mark 61) word) part.limit
+
+-- an option of btrbk is in words of its own
+abbrev pub SpellsPartBy : Option Ways → Tool → List ℕ → Part → Type 0
+SpellsPartBy (Some ways) tool word part = SpellsOption tool word part
+SpellsPartBy None tool word part = SpellsItem word part
+
+abbrev pub SpellsPart : Tool → List ℕ → Part → Type 0
+SpellsPart tool word part = SpellsPartBy (ways_of tool) tool word part
 
 -- a part of the rank is among them
 abbrev pub has_rank : ℕ → List Part → Bool
@@ -190,7 +207,7 @@ AreApart before (part ∷ parts) = (has_rank (rank_of part) before ≡ false) ×
 pub record SpellsParts (tool : Tool) (text : List ℕ) (parts : List Part) : Type 0 where
   pub each : AllZip (SpellsPart tool) (slice_split (is_mark 44) text) parts
   pub once : AreApart [] parts
-  pub few : length parts ≤ 16
+  pub few : length parts ≤ 18
 
 -- a tool's name, a colon (58), and options
 pub record MeansRule (word : List ℕ) (tool : Tool) (parts : List Part) : Type 0 where

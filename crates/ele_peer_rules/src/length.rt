@@ -2,13 +2,12 @@
 ghost use Rattle.std.specs.Prelude.{◌≡◌, ◌*◌, ◌<◌, ◌^◌, ℕ, List, Some, IfSome};
 ghost use Rattle.std.specs.Option.{option_map};
 ghost use Rattle.ele_moment.specs.Number.{SpellsNumber};
-ghost use Rattle.ele_peer_rules.specs.declared.limit.Reach.{Reach};
+ghost use Rattle.ele_rule_parts.specs.declared.part.Reach.{Reach};
 ghost use Rattle.ele_peer_rules.specs.Words.{SpellsBorg, SpellsReach, SpellsRestic, SpellsRows, SpellsSeconds, SpellsSome, SpellsUnit, borg_unit};
 
-use crate::cut::cut_at;
-use crate::limit::Reach;
-use crate::part::Tool;
+use crate::tool::Tool;
 use ele_moment::read_number;
+use ele_rule_parts::{Reach, cut_at};
 
 /// The length of time that a word spells to the tool.
 pub(crate) fn read_reach(tool: Tool, word: &[u8]) -> Option<Reach>
@@ -19,7 +18,7 @@ pub(crate) fn read_reach(tool: Tool, word: &[u8]) -> Option<Reach>
         Tool::Restic | Tool::OldRestic => read_restic(word),
         Tool::Borg => read_borg(word),
         Tool::Snapper => read_seconds(word),
-        Tool::Sanoid => None,
+        Tool::Sanoid | Tool::Btrbk => None,
     }
 }
 
@@ -30,7 +29,7 @@ pub(crate) fn read_rows(tool: Tool, word: &[u8]) -> Option<u64>
 {
     match tool {
         Tool::Restic | Tool::OldRestic | Tool::Borg => read_some(word),
-        Tool::Snapper | Tool::Sanoid => read_number(word),
+        Tool::Snapper | Tool::Sanoid | Tool::Btrbk => read_number(word),
     }
 }
 

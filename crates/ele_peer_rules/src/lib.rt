@@ -2,26 +2,16 @@
 //! row, a rule and a reason as plain data, and a list of rows as a list.
 #![tactic(auto)]
 
-mod calendar;
-mod cut;
-mod kind;
 mod length;
 mod limit;
 mod marking;
 mod names;
-mod part;
 mod reading;
-mod reason;
-mod row;
 mod rule;
-mod span;
+mod tool;
+mod ways;
 
-pub use calendar::Month;
-pub use kind::kind_of;
-pub use limit::{Limit, Reach};
-pub use part::{Part, Tool};
+pub use ele_rule_parts::{By, Limit, Month, Offset, Part, Reach, Reason, Row, Span, kind_of};
 pub use reading::{RuleFault, Wrong, read_rule};
-pub use reason::{By, Reason};
-pub use row::{Offset, Row};
 pub use rule::PeerRule;
-pub use span::Span;
+pub use tool::Tool;

@@ -1,28 +1,11 @@
-//! How many rows of its span a part of a rule keeps. A contract sees a limit as plain data.
-ghost use Rattle.std.specs.Prelude.{◌≡◌, ◌≤◌, ◌+◌, ◌*◌, nat_le};
-ghost use Rattle.ele_peer_rules.specs.Within.{is_within};
+//! What limits of parts allow, and the order of parts. A contract sees parts, limits and rows as plain data.
+ghost use Rattle.std.specs.Prelude.{◌≡◌, ◌<◌, ◌+◌, ◌*◌, nat_le};
+ghost use Rattle.ele_peer_rules.specs.Kept.{rank_of};
 ghost use Rattle.ele_peer_rules.specs.Marks.{is_allowed, is_young, period};
+ghost use Rattle.ele_peer_rules.specs.Within.{is_within};
 
-use crate::calendar::Month;
-use crate::row::Row;
-use crate::span::Span;
 use ele_moment::Moment;
-
-/// A length of time: calendar months, and seconds.
-#[derive(Clone, Copy)]
-pub struct Reach {
-    pub months: u64,
-    pub seconds: u64,
-}
-
-/// How many rows are kept: the newest so many, all, or those within a length of time.
-#[derive(Clone, Copy, Default)]
-pub enum Limit {
-    Number(u64),
-    #[default]
-    All,
-    Within(Reach),
-}
+use ele_rule_parts::{Limit, Month, Part, Reach, Row, Span};
 
 /// The moment from which a length of time reaches back, and its month.
 #[derive(Clone, Copy)]
@@ -31,42 +14,55 @@ pub struct Since {
     pub month: Month,
 }
 
-impl Reach {
-    // Whether a row is later than the moment that lies so far back.
-    fn has(self, since: &Since, row: &Row) -> bool
-        ensures { result ≡ is_within self since.now row.now }
-    {
-        let Some(days) = since.month.days_since(self.months) else {
-            return true;
-        };
-        let at = row.moment.seconds() + 86_400 * days as u64;
-        match since.moment.seconds().checked_sub(at) {
-            Some(apart) => apart < self.seconds,
-            None => true,
-        }
+/// The part's place in the order in which a tool takes them. Two parts of one rank say the same of a rule.
+pub(crate) fn rank_of(part: Part) -> u8
+    ensures rank { result ≡ rank_of part }
+    ensures bound { result < 18 }
+{
+    let span = part.span.rank();
+    match part.limit {
+        Limit::Number(_) | Limit::All => 1 + span,
+        Limit::Ago(_) => 1,
+        Limit::Within(_) if span == 0 => 0,
+        Limit::Within(_) => 8 + span,
+        Limit::Begin(_) if span == 4 => 16,
+        Limit::Begin(_) => 17,
     }
 }
 
-impl Limit {
-    /// Whether a row with so many newer ones of its kind is kept.
-    pub(crate) fn allows(self, since: &Since, newer: u64, row: &Row) -> bool
-        ensures { result ≡ is_allowed self since.now newer row.now }
-    {
-        match self {
-            Limit::Number(number) => newer < number,
-            Limit::All => true,
-            Limit::Within(reach) => reach.has(since, row),
-        }
+/// Whether the limit allows a row with so many newer ones of its kind.
+pub(crate) fn is_allowed(limit: Limit, since: &Since, newer: u64, row: &Row) -> bool
+    ensures { result ≡ is_allowed limit since.now newer row.now }
+{
+    match limit {
+        Limit::Number(number) => newer < number,
+        Limit::All => true,
+        Limit::Within(reach) => is_within(reach, since, row),
+        Limit::Ago(_) | Limit::Begin(_) => false,
     }
+}
 
-    /// Whether a row isn't older than so many of sanoid's periods.
-    pub(crate) fn is_young(self, span: Span, since: &Since, row: &Row) -> bool
-        ensures { result ≡ is_young self span since.now row.now }
-    {
-        match self {
-            Limit::Number(number) => lasts(number, span, since, row),
-            Limit::All | Limit::Within(_) => false,
-        }
+// Whether a row is later than the moment that lies so far back.
+fn is_within(reach: Reach, since: &Since, row: &Row) -> bool
+    ensures { result ≡ is_within reach since.now row.now }
+{
+    let Some(days) = since.month.days_since(reach.months) else {
+        return true;
+    };
+    let at = row.moment.seconds() + 86_400 * days as u64;
+    match since.moment.seconds().checked_sub(at) {
+        Some(apart) => apart < reach.seconds,
+        None => true,
+    }
+}
+
+/// Whether a row isn't older than so many of sanoid's periods.
+pub(crate) fn is_young(limit: Limit, span: Span, since: &Since, row: &Row) -> bool
+    ensures { result ≡ is_young limit span since.now row.now }
+{
+    match limit {
+        Limit::Number(number) => lasts(number, span, since, row),
+        Limit::All | Limit::Within(_) | Limit::Ago(_) | Limit::Begin(_) => false,
     }
 }
 

@@ -1,40 +1,38 @@
 //! What one part of a rule keeps. A contract sees rows and marks as lists, the oldest first.
 ghost use Rattle.std.specs.Prelude.{◌≡◌, ◌<◌, ◌^◌, ◌+◌, length, slice_get, Some};
 ghost use Rattle.ele_lists.specs.Ends.{last_of};
-ghost use Rattle.ele_peer_rules.specs.Marks.{after_part, by_kind, by_limit, by_of, by_tool, counts, is_oldest, marked, stays_young, takes};
+ghost use Rattle.ele_peer_rules.specs.Marks.{after_part, by_limit, by_name, by_of, by_take, counts, is_number, is_oldest, keeps_oldest, marked, stays_young, takes};
 
-use crate::limit::{Limit, Since};
-use crate::part::{Part, Tool};
-use crate::reason::{By, Reason};
-use crate::row::Row;
-use crate::span::Span;
+use crate::limit::{Since, is_allowed, is_young};
+use crate::ways::{OldestKept, Take, Ways};
+use ele_rule_parts::{By, Limit, Part, Reason, Row, Span};
 
 // By what a part keeps a row, which it may take, and may allow by its limit.
-fn by_of(tool: Tool, part: Part, taken: bool, allowed: bool) -> By
-    ensures { result ≡ by_of tool part taken allowed }
+fn by_of(take: Take, part: Part, taken: bool, allowed: bool) -> By
+    ensures { result ≡ by_of take part taken allowed }
 {
     if !taken {
         return By::Oldest;
     }
     if allowed {
-        by_tool(tool, part)
+        by_take(take, part)
     } else {
         By::Age
     }
 }
 
 // By what a part keeps a row that it takes and allows.
-fn by_tool(tool: Tool, part: Part) -> By
-    ensures { result ≡ by_tool tool part }
+fn by_take(take: Take, part: Part) -> By
+    ensures { result ≡ by_take take part }
 {
-    match tool {
-        Tool::Restic | Tool::OldRestic | Tool::Borg | Tool::Snapper => by_limit(part.limit),
-        Tool::Sanoid => by_kind(part.span, part.limit),
+    match take {
+        Take::Newest | Take::First => by_limit(part.limit),
+        Take::Named => by_name(part.span, part.limit),
     }
 }
 
-fn by_kind(span: Span, limit: Limit) -> By
-    ensures { result ≡ by_kind span limit }
+fn by_name(span: Span, limit: Limit) -> By
+    ensures { result ≡ by_name span limit }
 {
     match span {
         Span::Each => By::Other,
@@ -53,33 +51,50 @@ fn by_limit(limit: Limit) -> By
 {
     match limit {
         Limit::Number(_) | Limit::All => By::Count,
-        Limit::Within(_) => By::Age,
+        Limit::Within(_) | Limit::Ago(_) | Limit::Begin(_) => By::Age,
     }
 }
 
 // Whether the tool keeps the row for its age, whatever is counted.
-fn stays_young(tool: Tool, part: Part, since: &Since, row: &Row) -> bool
-    ensures { result ≡ stays_young tool part since.now row.now }
+fn stays_young(take: Take, part: Part, since: &Since, row: &Row) -> bool
+    ensures { result ≡ stays_young take part since.now row.now }
 {
-    match tool {
-        Tool::Restic | Tool::OldRestic | Tool::Borg | Tool::Snapper => false,
-        Tool::Sanoid => part.limit.is_young(part.span, since, row),
+    match take {
+        Take::Newest | Take::First => false,
+        Take::Named => is_young(part.limit, part.span, since, row),
     }
 }
 
 // Whether a part with the span takes the row, which lies between these.
-fn takes(tool: Tool, span: Span, older: &[Row], row: &Row, newer: &[Row]) -> bool
-    ensures { result ≡ takes tool span (last_of older.now) row.now newer.now }
+fn takes(ways: Ways, span: Span, older: &[Row], row: &Row, newer: &[Row]) -> bool
+    ensures { result ≡ takes ways span (last_of older.now) row.now newer.now }
 {
-    match tool {
-        Tool::Restic | Tool::OldRestic | Tool::Borg => span.is_newest(row, newer),
-        Tool::Snapper => span.is_first(older, row),
-        Tool::Sanoid => span.is_of(row),
+    match ways.take {
+        Take::Newest => span.is_newest(row, newer),
+        Take::First => span.is_first(older, row),
+        Take::Named => span.is_of(row),
     }
 }
 
+// Whether a part with the limit keeps the oldest row, though it doesn't take it.
+fn keeps_oldest(oldest: OldestKept, limit: Limit) -> bool
+    ensures { result ≡ keeps_oldest oldest limit }
+{
+    match oldest {
+        OldestKept::Always => true,
+        OldestKept::ByNumber => is_number(limit),
+        OldestKept::Never => false,
+    }
+}
+
+fn is_number(limit: Limit) -> bool
+    ensures { result ≡ is_number limit }
+{
+    matches!(limit, Limit::Number(_))
+}
+
 // Whether no row is before.
-#[tactic(auto, using(crate::proofs::Newest::newest_is))]
+#[tactic(auto, using(ele_rule_parts::proofs::Newest::newest_is))]
 fn is_oldest(older: &[Row]) -> bool
     ensures { result ≡ is_oldest (last_of older.now) }
 {
@@ -91,7 +106,7 @@ fn is_oldest(older: &[Row]) -> bool
 
 // What keeps a row after the part. So many newer rows are counted.
 fn marked(
-    tool: Tool,
+    ways: Ways,
     since: &Since,
     part: Part,
     oldest: bool,
@@ -101,26 +116,26 @@ fn marked(
     mark: Option<Reason>,
 ) -> Option<Reason>
     requires { counted + 1 < 2 ^ 64 }
-    ensures { result ≡ marked tool since.now part oldest taken counted row.now mark }
+    ensures { result ≡ marked ways since.now part oldest taken counted row.now mark }
 {
     if mark.is_some() {
         return mark;
     }
-    let may = taken || (oldest && tool.keeps_oldest(part.limit));
-    let allowed = part.limit.allows(since, counted, row);
-    if !may || !(allowed || stays_young(tool, part, since, row)) {
+    let may = taken || (oldest && keeps_oldest(ways.oldest, part.limit));
+    let allowed = is_allowed(part.limit, since, counted, row);
+    if !may || !(allowed || stays_young(ways.take, part, since, row)) {
         return None;
     }
     Some(Reason {
         span: part.span,
-        by: by_of(tool, part, taken, allowed),
+        by: by_of(ways.take, part, taken, allowed),
         number: counted + 1,
     })
 }
 
 /// Marks the rows that a part keeps and nothing before it does.
 pub(crate) fn mark_part(
-    tool: Tool,
+    ways: Ways,
     since: &Since,
     part: Part,
     rows: &[Row],
@@ -128,17 +143,17 @@ pub(crate) fn mark_part(
 )
     requires same { length rows.now ≡ length marks.old }
     requires fits { length rows.now < 2 ^ 60 }
-    ensures { marks.new ≡ after_part tool since.now part rows.now marks.old }
+    ensures { marks.new ≡ after_part ways since.now part rows.now marks.old }
 {
     let mut counted = 0;
     for at in (0..rows.len()).rev() {
         let row = &rows[at];
         let older = rows.split_at(at).0;
         let newer = rows.split_at(at + 1).1;
-        let taken = takes(tool, part.span, older, row, newer);
+        let taken = takes(ways, part.span, older, row, newer);
         let mark = mark_at(marks, at);
         marks[at] = marked(
-            tool,
+            ways,
             since,
             part,
             is_oldest(older),
@@ -147,7 +162,7 @@ pub(crate) fn mark_part(
             row,
             mark,
         );
-        counted += counts(tool, taken, mark);
+        counted += counts(ways, taken, mark);
     }
 }
 
@@ -160,10 +175,10 @@ fn mark_at(marks: &[Option<Reason>], at: usize) -> Option<Reason>
 }
 
 // How many rows more the part counts.
-fn counts(tool: Tool, taken: bool, mark: Option<Reason>) -> u64
-    ensures { result ≡ counts tool taken mark }
+fn counts(ways: Ways, taken: bool, mark: Option<Reason>) -> u64
+    ensures { result ≡ counts ways taken mark }
 {
-    if taken && (tool.counts_kept() || mark.is_none()) {
+    if taken && (ways.counts_kept || mark.is_none()) {
         1
     } else {
         0

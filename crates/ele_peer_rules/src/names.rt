@@ -2,8 +2,8 @@
 ghost use Rattle.std.specs.Prelude.{◌≡◌};
 ghost use Rattle.ele_peer_rules.specs.Words.{borg_slot, restic_slot, sanoid_slot, shared_slot, slot_of, snapper_slot, tool_of};
 
-use crate::part::Tool;
-use crate::span::Span;
+use crate::tool::Tool;
+use ele_rule_parts::Span;
 
 /// The spans that an option is about, and whether its value is a length of time.
 #[derive(Clone, Copy)]
@@ -26,6 +26,8 @@ pub(crate) fn tool_of(name: &[u8]) -> Option<Tool>
         Some(Tool::Snapper)
     } else if name == b"sanoid".as_slice() {
         Some(Tool::Sanoid)
+    } else if name == b"btrbk".as_slice() {
+        Some(Tool::Btrbk)
     } else {
         None
     }
@@ -40,6 +42,7 @@ pub(crate) fn slot_of(tool: Tool, name: &[u8]) -> Option<Slot>
         Tool::Borg => shared_slot(name).or(borg_slot(name)),
         Tool::Snapper => snapper_slot(name),
         Tool::Sanoid => sanoid_slot(name),
+        Tool::Btrbk => None,
     }
 }
 

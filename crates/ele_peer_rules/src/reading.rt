@@ -1,19 +1,22 @@
 //! Rules in text. A contract sees a word as its bytes.
 ghost use Rattle.std.specs.Prelude.{◌≡◌, List, Ok, Some, IfOk, IfErr, IfSome, true, false, if◌then◌else◌};
-ghost use Rattle.ele_peer_rules.specs.declared.limit.Limit.{Limit};
-ghost use Rattle.ele_peer_rules.specs.declared.part.Part.{Part};
-ghost use Rattle.ele_peer_rules.specs.declared.part.Tool.{Tool};
-ghost use Rattle.ele_peer_rules.specs.Words.{MeansRule, SpellsLimit, SpellsPart, SpellsParts, has_rank, is_all, is_mark, means_all};
-ghost use Rattle.ele_peer_rules.specs.Faults.{IsFault, IsFirstWrong, wrong_of};
+ghost use Rattle.ele_rule_parts.specs.declared.part.Limit.{Limit};
+ghost use Rattle.ele_rule_parts.specs.declared.part.Part.{Part};
+ghost use Rattle.ele_peer_rules.specs.declared.tool.Tool.{Tool};
+ghost use Rattle.ele_peer_rules.specs.Words.{MeansRule, SpellsLimit, SpellsOption, SpellsPart, SpellsParts, has_rank, is_all, means_all};
+ghost use Rattle.ele_rule_parts.specs.Marked.{is_mark};
+ghost use Rattle.ele_btrbk_rules.specs.Items.{SpellsItem, item_of};
+ghost use Rattle.ele_peer_rules.specs.Faults.{IsFault, IsFirstWrong, wrong_item, wrong_of, wrong_option};
 ghost use Rattle.std.specs.List.{slice_split};
 
-use crate::cut::cut_at;
 use crate::length::{read_reach, read_rows};
-use crate::limit::Limit;
+use crate::limit::rank_of;
 use crate::names::{slot_of, tool_of};
-use crate::part::{Part, Tool};
 use crate::rule::{MOST_PARTS, PeerRule};
+use crate::tool::Tool;
 use arrayvec::ArrayVec;
+use ele_btrbk_rules::{Item, item_of, read_item};
+use ele_rule_parts::{Limit, Part, cut_at};
 use thiserror::Error;
 
 /// What is wrong with a word that means no rule.
@@ -23,7 +26,7 @@ pub enum Wrong {
     #[error("a rule is a tool, a colon and options, as restic:keep-daily=7")]
     NoTool,
     /// The tool has no rules here.
-    #[error("a rule's tool is restic, restic-0.15, borg, snapper or sanoid")]
+    #[error("a rule's tool is restic, restic-0.15, borg, btrbk, snapper or sanoid")]
     UnknownTool,
     /// The option has no equals sign.
     #[error("an option is its name, an equals sign and a value, as keep-daily=7")]
@@ -37,6 +40,9 @@ pub enum Wrong {
     /// The value isn't a length of time as the tool writes it.
     #[error("a length of time is as 1y5m7d2h to restic, as 30d to borg, and in seconds to snapper")]
     BadLength,
+    /// The value isn't one of btrbk's.
+    #[error("btrbk keeps so many spans as 14d or *m, and at least 2d, latest or all; its weeks begin on monday or another day, its days at an hour from 0 to 23")]
+    BadSchedule,
     /// An option before says the same.
     #[error("an option before says the same")]
     Twice,
@@ -52,7 +58,7 @@ pub struct RuleFault {
 
 /// Returns the rule that a word means, as `restic:keep-last=3,keep-within=1m`: a tool's name, a colon, and options of the
 /// tool with a comma between each two. The tools are `restic`, `restic-0.15`, which is each version up to that one,
-/// `borg`, `snapper` and `sanoid`. `RuleFault` for every other word, with its first fault. It takes no memory.
+/// `borg`, `btrbk`, `snapper` and `sanoid`. `RuleFault` for every other word, with its first fault. It takes no memory.
 pub fn read_rule(word: &[u8]) -> Result<PeerRule, RuleFault>
     ensures found { IfOk result (λ rule. MeansRule word.now rule.tool rule.parts.items) }
     ensures none { IfErr result (λ fault. (tool : Tool) (parts : List Part)
@@ -93,7 +99,7 @@ fn read_parts(tool: Tool, text: &[u8]) -> Result<ArrayVec<Part, MOST_PARTS>, Rul
         if parts.is_full() {
             return Err(fault(number, Wrong::Twice));
         }
-        if has_rank(part.rank(), parts.as_slice()) {
+        if has_rank(rank_of(part), parts.as_slice()) {
             return Err(fault(number, Wrong::Twice));
         }
         parts.push(part);
@@ -105,7 +111,7 @@ fn read_parts(tool: Tool, text: &[u8]) -> Result<ArrayVec<Part, MOST_PARTS>, Rul
 fn has_rank(rank: u8, parts: &[Part]) -> bool
     ensures { result ≡ has_rank rank parts.now }
 {
-    parts.iter().any(|part| part.rank() == rank)
+    parts.iter().any(|part| rank_of(*part) == rank)
 }
 
 // The part that an option spells.
@@ -113,6 +119,40 @@ fn read_part(tool: Tool, option: &[u8]) -> Result<Part, Wrong>
     ensures found { IfOk result (SpellsPart tool option.now) }
     ensures only { (part : Part) → SpellsPart tool option.now part → result ≡ Ok part }
     ensures wrong { IfErr result (λ wrong. wrong ≡ wrong_of tool option.now) }
+{
+    match tool.ways() {
+        Some(_) => read_option(tool, option),
+        None => read_scheduled(option),
+    }
+}
+
+// The part that an option of btrbk spells.
+fn read_scheduled(option: &[u8]) -> Result<Part, Wrong>
+    ensures found { IfOk result (SpellsItem option.now) }
+    ensures only { (part : Part) → SpellsItem option.now part → result ≡ Ok part }
+    ensures wrong { IfErr result (λ wrong. wrong ≡ wrong_item (item_of option.now)) }
+{
+    match read_item(option) {
+        Some(part) => Ok(part),
+        None => Err(wrong_item(item_of(option))),
+    }
+}
+
+// What is wrong with an option of btrbk that spells no part.
+fn wrong_item(item: Option<Item>) -> Wrong
+    ensures { result ≡ wrong_item item }
+{
+    match item {
+        Some(_) => Wrong::BadSchedule,
+        None => Wrong::UnknownOption,
+    }
+}
+
+// The part that a named option spells.
+fn read_option(tool: Tool, option: &[u8]) -> Result<Part, Wrong>
+    ensures found { IfOk result (SpellsOption tool option.now) }
+    ensures only { (part : Part) → SpellsOption tool option.now part → result ≡ Ok part }
+    ensures wrong { IfErr result (λ wrong. wrong ≡ wrong_option tool option.now) }
 {
     let Some((name, value)) = cut_at(b'=', option) else {
         return Err(Wrong::NoValue);
@@ -183,7 +223,7 @@ fn means_all(tool: Tool, text: &[u8]) -> bool
 {
     match tool {
         Tool::Restic | Tool::OldRestic | Tool::Borg => is_all(text),
-        Tool::Snapper | Tool::Sanoid => false,
+        Tool::Snapper | Tool::Sanoid | Tool::Btrbk => false,
     }
 }
 

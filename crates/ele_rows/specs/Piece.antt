@@ -1,4 +1,4 @@
--- A chunk. Public clauses see no chunk.
+-- A chunk. No public clause cites this module.
 use Rattle.std.specs.Prelude.{◌≡◌, ℕ, List, Vec, map, vec_capacity}
 use Rattle.std.specs.declared.alloc.Global.{Global}
 use Rattle.std.specs.Option.{ForSome}

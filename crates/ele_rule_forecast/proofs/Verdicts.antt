@@ -4,7 +4,7 @@ use Rattle.std.proofs.lemmas.List.{drop_more, take_more}
 use Rattle.std.proofs.lemmas.Option.{get_or_from_slice_get}
 use Rattle.std.proofs.lemmas.Slice.Zip.{all_zipped_more}
 use Rattle.std.specs.List.{AllZip}
-use Rattle.ele_peer_rules.specs.declared.reason.Reason.{Reason}
+use Rattle.ele_rule_parts.specs.declared.reason.Reason.{Reason}
 use Rattle.ele_rule_forecast.specs.Judged.{number_if, numbers_from}
 
 -- one more of two lists side by side

@@ -1,10 +1,10 @@
 -- What rules keep of versions, at moments.
 use Rattle.std.specs.Prelude.{◌≡◌, ℕ, ◌+◌, ◌-◌, nat_le, List, [], ◌∷◌, ◌++◌, Option, Some, None, filter, length, slice_get, take}
 use Rattle.std.specs.List.{AllZip}
-use Rattle.ele_peer_rules.specs.declared.reason.Reason.{Reason}
-use Rattle.ele_peer_rules.specs.declared.row.Row.{Row}
+use Rattle.ele_rule_parts.specs.declared.reason.Reason.{Reason}
+use Rattle.ele_rule_parts.specs.declared.row.Row.{Row}
 use Rattle.ele_peer_rules.specs.declared.rule.PeerRule.{PeerRule}
-use Rattle.ele_peer_rules.specs.Kept.{kept_by}
+use Rattle.ele_peer_rules.specs.Kept.{IsKept}
 use Rattle.ele_rule_forecast.specs.declared.judged.AskedRule.{AskedRule}
 use Rattle.ele_rule_forecast.specs.declared.judged.Judged.{Judged}
 use Rattle.ele_rule_forecast.specs.declared.judged.Verdict.{Verdict}
@@ -32,7 +32,7 @@ numbers_of reasons = numbers_from 1 reasons
 
 -- what the rule keeps at the moment, of the versions that have closed by then
 pub record IsVerdict (rule : PeerRule) (rows : List Row) (at : ℕ) (verdict : Verdict) : Type 0 where
-  pub reasons_are : verdict.reasons.items ≡ kept_by rule.tool rule.parts.items at (rows_by at rows)
+  pub reasons_are : IsKept rule.tool rule.parts.items at (rows_by at rows) verdict.reasons.items
   pub at_is : verdict.staying.at ≡ at
   pub numbers_are : verdict.staying.numbers.items ≡ numbers_of verdict.reasons.items
 

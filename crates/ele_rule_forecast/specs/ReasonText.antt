@@ -1,10 +1,10 @@
 -- By which part of a rule a version is kept, in words.
 use Rattle.std.specs.Prelude.{ℕ, List, ◌∷◌, ◌++◌, codes, decimal}
-use Rattle.ele_peer_rules.specs.declared.reason.By.{By}
-use Rattle.ele_peer_rules.specs.declared.reason.By.TheVariants.{Count, Age, Oldest, Other}
-use Rattle.ele_peer_rules.specs.declared.reason.Reason.{Reason}
-use Rattle.ele_peer_rules.specs.declared.span.Span.{Span}
-use Rattle.ele_peer_rules.specs.declared.span.Span.TheVariants.{Each, Second, Minute, Hour, Day, Week, Month, Year}
+use Rattle.ele_rule_parts.specs.declared.reason.By.{By}
+use Rattle.ele_rule_parts.specs.declared.reason.By.TheVariants.{Count, Age, Oldest, Other}
+use Rattle.ele_rule_parts.specs.declared.reason.Reason.{Reason}
+use Rattle.ele_rule_parts.specs.declared.span.Span.{Span}
+use Rattle.ele_rule_parts.specs.declared.span.Span.TheVariants.{Each, Second, Minute, Hour, Day, Week, Month, Year}
 
 -- the part that keeps a number of versions
 abbrev pub span_word : Span → List ℕ

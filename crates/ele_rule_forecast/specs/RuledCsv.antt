@@ -6,7 +6,7 @@ use Rattle.ele_forecast_text.specs.Plan.{versions_of}
 use Rattle.ele_forecast_text.specs.declared.details.Details.{Details}
 use Rattle.ele_forecast_text.specs.declared.plan.Plan.{Plan}
 use Rattle.ele_forecast_forms.specs.Csv.{heading_fields, row_fields}
-use Rattle.ele_peer_rules.specs.declared.reason.Reason.{Reason}
+use Rattle.ele_rule_parts.specs.declared.reason.Reason.{Reason}
 use Rattle.ele_rule_forecast.specs.Judged.{reason_in}
 use Rattle.ele_rule_forecast.specs.ReasonText.{reason_text}
 use Rattle.ele_rule_forecast.specs.declared.judged.Judged.{Judged}

@@ -1,12 +1,12 @@
--- A forecast with rules as JSON: one object. A rule's word has no character that a string would escape.
+-- The rules of a forecast as JSON: a member of its object. A rule's word has no character that a string would escape.
 use Rattle.std.specs.Prelude.{ℕ, List, ◌++◌, Option, Some, None, codes, map}
 use Rattle.std.specs.List.{join_with_byte}
 use Rattle.ele_forecast.specs.declared.forecast.Forecast.{Forecast}
 use Rattle.ele_forecast_text.specs.Plan.{versions_of}
 use Rattle.ele_forecast_text.specs.declared.details.Details.{Details}
 use Rattle.ele_forecast_text.specs.declared.plan.Plan.{Plan}
-use Rattle.ele_forecast_forms.specs.Json.{members_text, staying_text}
-use Rattle.ele_peer_rules.specs.declared.reason.Reason.{Reason}
+use Rattle.ele_forecast_forms.specs.Json.{staying_text}
+use Rattle.ele_rule_parts.specs.declared.reason.Reason.{Reason}
 use Rattle.ele_rule_forecast.specs.Judged.{reason_in}
 use Rattle.ele_rule_forecast.specs.ReasonText.{reason_text}
 use Rattle.ele_rule_forecast.specs.declared.judged.Judged.{Judged}
@@ -34,6 +34,7 @@ rule_text details versions judged =
     codes "\n{\"rule\":\"" ++ (judged.word.items ++ (codes "\",\"at\":[" ++ (join_with_byte 44 (map (verdict_text details) judged.verdicts.items)
     ++ (codes "],\"why\":[" ++ (why_texts versions judged ++ codes "]}")))))
 
-abbrev pub ruled_json : Details → List Plan → List Judged → List ℕ
-ruled_json details plans rules =
-    codes "{\"rules\":[" ++ (join_with_byte 44 (map (rule_text details (versions_of plans)) rules) ++ (codes "\n],\n" ++ members_text details plans))
+-- the rules, as a member of an object that others follow
+abbrev pub rules_member : Details → List Plan → List Judged → List ℕ
+rules_member details plans rules =
+    codes "\"rules\":[" ++ (join_with_byte 44 (map (rule_text details (versions_of plans)) rules) ++ codes "\n],\n")

@@ -10,7 +10,7 @@ use Rattle.ele_forecast_text.specs.Why.{spaced}
 use Rattle.ele_forecast_text.specs.declared.details.Details.{Details}
 use Rattle.ele_forecast_text.specs.declared.plan.Plan.{Plan}
 use Rattle.ele_forecast_forms.specs.Compared.{compared_columns, policy_column, stayings_text}
-use Rattle.ele_peer_rules.specs.declared.reason.Reason.{Reason}
+use Rattle.ele_rule_parts.specs.declared.reason.Reason.{Reason}
 use Rattle.ele_rule_forecast.specs.Judged.{reason_in}
 use Rattle.ele_rule_forecast.specs.ReasonText.{reason_text}
 use Rattle.ele_rule_forecast.specs.declared.judged.Judged.{Judged}

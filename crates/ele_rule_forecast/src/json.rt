@@ -1,31 +1,30 @@
-//! A forecast with rules as JSON. A contract sees its text, and a printer as its outlet.
+//! Rules of a forecast as JSON. A contract sees its text, and a printer as its outlet.
 ghost use Rattle.std.specs.Prelude.{◌∷◌, codes, map};
 ghost use Rattle.std.specs.List.{join_with_byte};
 ghost use Rattle.ele_output.specs.Prints.{Prints};
-ghost use Rattle.ele_rule_forecast.specs.RuledJson.{quoted_reason, reason_or_null, rule_text, ruled_json, verdict_text, why_texts};
+ghost use Rattle.ele_rule_forecast.specs.RuledJson.{quoted_reason, reason_or_null, rule_text, rules_member, verdict_text, why_texts};
 
 use crate::judged::{Judged, Verdict, reason_in};
 use crate::reason::put_reason;
 use ele_forecast::Forecast;
-use ele_forecast_forms::{put_json_members, put_staying};
+use ele_forecast_forms::put_staying;
 use ele_forecast_text::{Details, Plan, versions_of};
 use ele_output::Printer;
 use ele_peer_rules::Reason;
 use std::io::Write;
 
-/// Puts a forecast as JSON: one object, of the rules, the plans and their versions.
-pub fn put_ruled_json<W: Write>(
+/// Puts rules, and what they keep of the versions of the plans, as a member of an object that others follow.
+pub fn put_rules_member<W: Write>(
     details: &Details,
     plans: &[Plan],
     rules: &[Judged],
     printer: &mut Printer<'_, W>,
 )
-    ensures { Prints W.contents printer.old printer.new (ruled_json details.now plans.now rules.now) }
+    ensures { Prints W.contents printer.old printer.new (rules_member details.now plans.now rules.now) }
 {
-    printer.put(b"{\"rules\":[");
+    printer.put(b"\"rules\":[");
     put_rules(details, versions_of(plans), rules, printer);
     printer.put(b"\n],\n");
-    put_json_members(details, plans, printer);
 }
 
 // Puts rules, with a comma between each two.

@@ -9,6 +9,6 @@ mod reason;
 mod table;
 
 pub use csv::put_ruled_csv;
-pub use json::put_ruled_json;
+pub use json::put_rules_member;
 pub use judged::{AskedRule, Judged, Verdict, judge};
 pub use table::put_ruled;

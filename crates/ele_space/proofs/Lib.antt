@@ -1,4 +1,2 @@
 -- the amounts of one more moment
 mod Rows
--- joined texts, and what a list is put by
-mod Commas

@@ -2,14 +2,12 @@
 ghost use Rattle.std.specs.Prelude.{map};
 ghost use Rattle.std.specs.List.{join_with_byte};
 ghost use Rattle.ele_output.specs.Prints.{Prints};
-ghost use Rattle.ele_forecast_forms.specs.Json.{policy_field, staying_text};
 ghost use Rattle.ele_space.specs.Removals.{removal_json, removals_member};
 
 use crate::removals::Removals;
-use ele_forecast_forms::put_staying;
-use ele_forecast_text::{Details, Staying, put_policy};
+use ele_forecast_forms::{put_at_moments, put_policy_field};
+use ele_forecast_text::Details;
 use ele_output::Printer;
-use ele_policy::Policy;
 use std::io::Write;
 
 /// Puts what the removals under each policy free as a member of an object that others follow.
@@ -45,32 +43,8 @@ fn put_removal<W: Write>(details: &Details, removal: &Removals, printer: &mut Pr
     ensures { Prints W.contents printer.old printer.new (removal_json details.now removal.now) }
 {
     printer.put_byte(b'\n');
-    put_policy_field(&removal.policy, printer);
+    put_policy_field(removal.word.as_slice(), printer);
     printer.put(b",\"at\":[");
-    put_moments(details, removal.due.as_slice(), printer);
+    put_at_moments(details, removal.due.as_slice(), printer);
     printer.put(b"]}");
-}
-
-// Puts a policy as the first field of an object.
-fn put_policy_field<W: Write>(policy: &Policy, printer: &mut Printer<'_, W>)
-    ensures { Prints W.contents printer.old printer.new (policy_field policy.now) }
-{
-    printer.put(b"{\"policy\":\"");
-    put_policy(policy, printer);
-    printer.put(b"\"");
-}
-
-// Puts the versions that are due at each of some moments, with a comma between each two.
-fn put_moments<W: Write>(details: &Details, due: &[Staying], printer: &mut Printer<'_, W>)
-    ensures { Prints W.contents printer.old printer.new
-        (join_with_byte 44 (map (staying_text details.now) due.now)) }
-{
-    let Some((first, rest)) = due.split_first() else {
-        return;
-    };
-    put_staying(details, first, printer);
-    for staying in rest {
-        printer.put_byte(b',');
-        put_staying(details, staying, printer);
-    }
 }

@@ -5,10 +5,9 @@ ghost use Rattle.ele_output.specs.Prints.{Prints};
 ghost use Rattle.ele_space.specs.Removals.{AreRemovals, IsDueThen, bytes_words, due_line, policy_part, removals_text};
 
 use ele_forecast::Forecast;
-use ele_forecast_text::{Details, Plan, Staying, bytes_of, listed_at, put_policy, stamp_of};
+use ele_forecast_text::{Details, Plan, Staying, bytes_of, listed_at, stamp_of};
 use ele_moment::{NoMemory, VersionNo};
 use ele_output::{Printer, put_with_number};
-use ele_policy::Policy;
 use itoa::Buffer;
 use std::alloc::Global;
 use std::io::Write;
@@ -16,7 +15,8 @@ use std::io::Write;
 /// The versions that are due under a policy, at each of some moments.
 #[derive(Drop)]
 pub struct Removals {
-    pub policy: Policy,
+    /// The word by which the policy was given.
+    pub word: Vec<u8>,
     pub due: Vec<Staying>,
 }
 
@@ -28,14 +28,20 @@ pub fn removals_of(alloc: Global, plans: &[Plan]) -> Result<Vec<Removals>, NoMem
 {
     let mut removals = Vec::new(alloc);
     for plan in plans {
-        let forecasts = plan.forecasts.as_slice();
-        let due = due_of(alloc, forecasts, plan.stayings.as_slice())?;
-        removals.push(Removals {
-            policy: plan.policy,
-            due,
-        })?;
+        removals.push(removals_under(alloc, plan)?)?;
     }
     Ok(removals)
+}
+
+// The versions that are due under a plan at each of its moments.
+fn removals_under(alloc: Global, plan: &Plan) -> Result<Removals, NoMemory>
+    ensures { IfOk result (AreRemovals plan.now) }
+{
+    let mut word = Vec::new(alloc);
+    word.extend_from_slice(plan.word.as_slice())?;
+    let forecasts = plan.forecasts.as_slice();
+    let due = due_of(alloc, forecasts, plan.stayings.as_slice())?;
+    Ok(Removals { word, due })
 }
 
 // The versions that are due at each of these moments.
@@ -69,37 +75,37 @@ pub fn put_removals<W: Write>(
         (removals_text named details.now removals.now) }
 {
     for removal in removals {
-        let due = removal.due.as_slice();
-        put_due(named, details, &removal.policy, due, printer);
+        let word = removal.word.as_slice();
+        put_due(named, details, word, removal.due.as_slice(), printer);
     }
 }
 
-// Puts the lines of a policy.
+// Puts the lines of the policy of that word.
 fn put_due<W: Write>(
     named: bool,
     details: &Details,
-    policy: &Policy,
+    word: &[u8],
     due: &[Staying],
     printer: &mut Printer<'_, W>,
 )
     ensures { Prints W.contents printer.old printer.new
-        (flat_map (due_line named details.now policy.now) due.now) }
+        (flat_map (due_line named details.now word.now) due.now) }
 {
     for staying in due {
         printer.put(b"at ");
         printer.put(&stamp_of(staying.at));
-        put_policy_if(named, policy, printer);
+        put_word_if(named, word, printer);
         put_freed(details, staying.numbers.as_slice(), printer);
     }
 }
 
-// Puts a space and a policy if `named` holds.
-fn put_policy_if<W: Write>(named: bool, policy: &Policy, printer: &mut Printer<'_, W>)
-    ensures { Prints W.contents printer.old printer.new (policy_part named policy.now) }
+// Puts a space and a word if `named` holds.
+fn put_word_if<W: Write>(named: bool, word: &[u8], printer: &mut Printer<'_, W>)
+    ensures { Prints W.contents printer.old printer.new (policy_part named word.now) }
 {
     if named {
         printer.put_byte(b' ');
-        put_policy(policy, printer);
+        printer.put(word);
     }
 }
 

@@ -5,9 +5,8 @@ ghost use Rattle.ele_output.specs.Prints.{Prints};
 ghost use Rattle.ele_space.specs.AmountsText.{amount_text, amounts_csv, amounts_line, amounts_text, bytes_text, csv_columns, size_columns, table_columns};
 
 use crate::amounts::{Amount, Amounts};
-use ele_forecast_text::{Plan, put_policy, stamp_of};
+use ele_forecast_text::{Plan, stamp_of};
 use ele_output::Printer;
-use ele_policy::Policy;
 use itoa::Buffer;
 use std::io::Write;
 
@@ -18,18 +17,18 @@ pub fn put_amounts<W: Write>(plans: &[Plan], rows: &[Amounts], printer: &mut Pri
 {
     printer.put(b"at");
     for plan in plans {
-        put_table_columns(&plan.policy, printer);
+        put_table_columns(plan.word.as_slice(), printer);
     }
     printer.put(b"\n");
     put_rows(b' ', true, rows, printer);
 }
 
-// Puts the headings of a policy.
-fn put_table_columns<W: Write>(policy: &Policy, printer: &mut Printer<'_, W>)
-    ensures { Prints W.contents printer.old printer.new (table_columns policy.now) }
+// Puts the headings of the policy of that word.
+fn put_table_columns<W: Write>(word: &[u8], printer: &mut Printer<'_, W>)
+    ensures { Prints W.contents printer.old printer.new (table_columns word.now) }
 {
     printer.put(b" ");
-    put_policy(policy, printer);
+    printer.put(word);
     printer.put(b" bytes freed");
 }
 
@@ -44,31 +43,31 @@ pub fn put_amounts_csv<W: Write>(
 {
     printer.put(b"at");
     for plan in plans {
-        put_csv_columns(sizes, &plan.policy, printer);
+        put_csv_columns(sizes, plan.word.as_slice(), printer);
     }
     printer.put(b"\n");
     put_rows(b',', sizes, rows, printer);
 }
 
-// Puts the headings of a policy.
-fn put_csv_columns<W: Write>(sizes: bool, policy: &Policy, printer: &mut Printer<'_, W>)
-    ensures { Prints W.contents printer.old printer.new (csv_columns sizes policy.now) }
+// Puts the headings of the policy of that word.
+fn put_csv_columns<W: Write>(sizes: bool, word: &[u8], printer: &mut Printer<'_, W>)
+    ensures { Prints W.contents printer.old printer.new (csv_columns sizes word.now) }
 {
     printer.put(b",\"kept ");
-    put_policy(policy, printer);
-    put_size_columns(sizes, policy, printer);
+    printer.put(word);
+    put_size_columns(sizes, word, printer);
     printer.put(b"\"");
 }
 
-// Puts the headings of the bytes under a policy, if versions have sizes.
-fn put_size_columns<W: Write>(sizes: bool, policy: &Policy, printer: &mut Printer<'_, W>)
-    ensures { Prints W.contents printer.old printer.new (size_columns sizes policy.now) }
+// Puts the headings of the bytes under the policy of that word, if versions have sizes.
+fn put_size_columns<W: Write>(sizes: bool, word: &[u8], printer: &mut Printer<'_, W>)
+    ensures { Prints W.contents printer.old printer.new (size_columns sizes word.now) }
 {
     if sizes {
         printer.put(b"\",\"bytes ");
-        put_policy(policy, printer);
+        printer.put(word);
         printer.put(b"\",\"freed ");
-        put_policy(policy, printer);
+        printer.put(word);
     }
 }
 

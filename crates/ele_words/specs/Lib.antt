@@ -1,4 +1,5 @@
 pub mod Ends
+pub mod Evidence
 pub mod Forecasts
 pub mod Progress
 pub mod RunEnds
@@ -8,4 +9,6 @@ pub mod StrictEnd
 pub mod Summary
 pub mod SystemError
 pub mod SystemReason
+pub mod Typing
 pub mod Watched
+pub mod Written

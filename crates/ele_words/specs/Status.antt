@@ -9,7 +9,7 @@ use Rattle.ele_storm_plan.specs.declared.fault.AuditFault.{AuditFault}
 use Rattle.ele_storm_plan.specs.declared.fault.AuditFault.TheVariants as audited
 use Rattle.ele_storm_plan.specs.declared.fault.StormFault.TheVariants as storm
 use Rattle.ele_words.specs.declared.failure.Failure.{Failure}
-use Rattle.ele_words.specs.declared.failure.Failure.TheVariants.{Fault, Storm, Unequal, NotUnderstood, BadInput, StrictLine}
+use Rattle.ele_words.specs.declared.failure.Failure.TheVariants.{Fault, Storm, Unequal, NotUnderstood, BadInput, StrictLine, NoEvidence}
 
 -- after a failure
 abbrev pub status_after : Failure → ℕ
@@ -26,6 +26,7 @@ status_after Unequal = 4
 status_after NotUnderstood = 2
 status_after BadInput = 2
 status_after StrictLine = 5
+status_after NoEvidence = 1
 
 -- after a fault
 abbrev pub fault_status : ShellFault → ℕ

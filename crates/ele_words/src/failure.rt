@@ -17,10 +17,13 @@ pub enum Failure {
     Unequal,
     /// The arguments weren't understood.
     NotUnderstood,
-    /// A line of a forecast's input is bad, or its table would have too many moments.
+    /// A line of a forecast's input is bad, or its table would have too many moments; or a line of a
+    /// script makes no history that can be handed over.
     BadInput,
     /// A line ended a strict run.
     StrictLine,
+    /// A text isn't the evidence of a history.
+    NoEvidence,
 }
 
 /// Returns the exit status of this failure.
@@ -38,5 +41,6 @@ pub fn status(failure: Failure) -> u8
         Failure::Unequal => 4,
         Failure::NotUnderstood | Failure::BadInput => 2,
         Failure::StrictLine => 5,
+        Failure::NoEvidence => 1,
     }
 }

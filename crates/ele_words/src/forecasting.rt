@@ -1,10 +1,10 @@
 //! A forecast as the program makes it. It goes to one writer, and a fault to the other.
 //! A contract sees what was read, what both writers hold then, and the status.
-ghost use Rattle.std.specs.Prelude.{◌≡◌, codes};
+ghost use Rattle.std.specs.Prelude.{◌≡◌, codes, true};
 ghost use Rattle.ele_output.specs.Outlet.{Reports};
 ghost use Rattle.ele_output.specs.Prints.{outlet};
 ghost use Rattle.ele_outlook.specs.Input.{bad_line_text};
-ghost use Rattle.ele_words.specs.Forecasts.{ForecastEnds, forecast_line, forecast_status};
+ghost use Rattle.ele_words.specs.Forecasts.{ForecastEnds, forecast_line, forecast_status, warning};
 
 use crate::failure::{Failure, status};
 use crate::program::tell;
@@ -14,7 +14,8 @@ use ele_runs::ShellFault;
 use std::alloc::Global;
 use std::io::{Read, Write};
 
-/// Reads closings and writes their forecast. Reports a fault to `errors`. Returns the exit status.
+/// Reads closings and writes their forecast. Reports a fault to `errors`, or that times were read as UTC. Returns the exit
+/// status.
 pub(crate) fn run_forecast<R: Read, W: Write, E: Write>(
     alloc: Global,
     ask: &ForecastOptions,
@@ -27,9 +28,34 @@ pub(crate) fn run_forecast<R: Read, W: Write, E: Write>(
         (outlet E.contents errors.old) (outlet E.contents errors.new) result }
 {
     match write_forecast(alloc, ask, reader, writer) {
-        Ok(()) => tell(None, errors),
+        Ok(unplaced) => tell_done(unplaced, errors),
         Err(fault) => tell_fault(fault, errors),
     }
+}
+
+// Reports that a forecast is written, with a warning if times were read as UTC. Returns the exit status.
+fn tell_done<E: Write>(unplaced: bool, errors: &mut Printer<'_, E>) -> u8
+    ensures status { result ≡ 0 }
+    ensures told { Reports (outlet E.contents errors.old) (outlet E.contents errors.new)
+        (warning unplaced) }
+{
+    if unplaced {
+        return warn(errors);
+    }
+    tell(None, errors)
+}
+
+// Warns that times were read as UTC. Returns the exit status.
+fn warn<E: Write>(errors: &mut Printer<'_, E>) -> u8
+    ensures status { result ≡ 0 }
+    ensures told { Reports (outlet E.contents errors.old) (outlet E.contents errors.new)
+        (warning true) }
+{
+    errors.put(
+        b"elephant: times without an offset are read as UTC; --offset gives another clock\n",
+    );
+    errors.flush();
+    0
 }
 
 // Reports the fault of a forecast. Returns the exit status.

@@ -2,6 +2,8 @@
 //! A contract sees how a run ended, what the streams hold then, and the status.
 #![tactic(auto)]
 
+mod clock;
+mod evidence;
 mod failure;
 mod forecasting;
 mod keeps_error;
@@ -11,11 +13,14 @@ mod storming;
 mod strict;
 mod summary;
 mod system_reason;
+mod typing;
 mod watched;
 
+pub use clock::now;
 pub use ele_invocation::{Invocation, unreadable_args, words};
 pub use failure::{Failure, status};
 pub use keeps_error::{KeepsError, LastError};
 pub use meter::{Cleared, Counted, Meter};
 pub use program::{dispatch, dispatch_alone};
 pub use system_reason::SystemReason;
+pub use typing::run_typed;

@@ -12,6 +12,7 @@ ghost use Rattle.ele_invocation.specs.Invocation.{is_storm};
 ghost use Rattle.ele_words.specs.RunEnds.{TellsRun, run_status};
 ghost use Rattle.ele_words.specs.SystemReason.{IsReasonOf};
 
+use crate::evidence::{run_evidence, run_verify};
 use crate::failure::{Failure, status};
 use crate::forecasting::run_forecast;
 use crate::keeps_error::LastError;
@@ -101,7 +102,15 @@ pub(crate) fn write_text<W: Write>(text: &str, writer: &mut W) -> Result<(), She
     ensures { HasWritten text.now (W.contents writer.old) (W.contents writer.new)
         (result_err result) }
 {
-    let written = write_all(writer, text.as_bytes());
+    write_bytes(text.as_bytes(), writer)
+}
+
+/// Writes bytes, and flushes them. After a `WriteFault` the writer has a prefix of them.
+pub(crate) fn write_bytes<W: Write>(bytes: &[u8], writer: &mut W) -> Result<(), ShellFault>
+    ensures { HasWritten bytes.now (W.contents writer.old) (W.contents writer.new)
+        (result_err result) }
+{
+    let written = write_all(writer, bytes);
     let flushed = writer.flush();
     written?;
     after_flush(Ok(()), &flushed)
@@ -146,6 +155,8 @@ pub fn dispatch_alone<C: Explain + FromFlat, R: Read + LastError, W: Write + Las
         }
         Invocation::Storm(_) => unreachable!(),
         Invocation::Forecast(ask) => run_forecast(alloc, ask, reader, writer, errors),
+        Invocation::Evidence => run_evidence::<C, R, W, E>(alloc, reader, writer, errors),
+        Invocation::Verify => run_verify::<C, R, W, E>(alloc, reader, writer, errors),
         Invocation::Help(text) => tell(write_text(text.as_str(), writer).err(), errors),
         Invocation::NotUnderstood(text) => {
             errors.put(text.as_bytes());
@@ -160,6 +171,7 @@ pub fn dispatch_alone<C: Explain + FromFlat, R: Read + LastError, W: Write + Las
 ///
 /// A storm calls its core from many threads, and may wait for them forever. If it is `watched`, it
 /// shows at `progress` how many events were answered. All else is done by `dispatch_alone`.
+#[tactic(auto, using(crate::proofs::Alone::ends_alone))]
 pub fn dispatch<
     C: Audit + Explain + FromFlat + Send,
     T: Threads + Wait + Clock + Sync,

@@ -23,6 +23,7 @@ from ._answers import (
     Due,
     Entry,
     Fate,
+    FileInfo,
     FileStat,
     Gone,
     Group,
@@ -106,6 +107,7 @@ from ._errors import (
     Untold,
 )
 # End of the errors.
+from ._file_store import FileStore
 from ._files import File, TextFile
 from ._moments import LAST_MOMENT, Moment
 from ._policies import KeepAll, KeepOne, KeepSafe, Landmarks, Policy
@@ -120,12 +122,12 @@ __all__ = [
     "LAST_MOMENT", "__version__", "AlreadyMember", "Answered", "Answers", "BadCheckpoint", "BadJournal", "BadLadder", "BadLimits",
     "BadMoment", "BadName", "BadPath", "BadTime", "Cause", "ClockBack", "ClockDoubt", "ClockEnd", "Closed", "ClosedSession", "Counts",
     "Current", "DeadName", "DeletedName", "DirectoryStat", "Drafting", "Due", "ElephantError", "Entry", "Exists", "Fate", "File",
-    "FileStat", "Forgotten", "Full", "Future", "Gone", "Group", "GroupExists", "HandlesOpen", "HasJournal", "History", "HistoryFull",
-    "IntoItself", "IsDirectory", "IsRoot", "JournalDamaged", "JournalError", "JournalLocked", "JournalLost", "KeepAll", "KeepOne",
-    "KeepSafe", "Kept", "Landmarks", "Limits", "Mark", "Marked", "MarkExists", "MassRemoval", "Moment", "NameStory", "NoEntry", "NoGroup",
-    "NoHandle", "NoHistory", "NoJournal", "NoMark", "NoMemory", "NotAhead", "NotDirectory", "NotEmpty", "NotMember", "NotPast",
-    "NotRestorable", "NotWriter", "NoVersion", "Open", "OpenHandle", "Pass", "PathEntry", "Policy", "read_time", "Reader", "ReadOnly",
-    "Recovered", "Refused", "Removable", "Removal", "RemovalWaits", "Removed", "RestoredTree", "Session", "Stop", "Store", "Story",
-    "Syntax", "TextFile", "Time", "TooBig", "TreeStep", "UnknownAnswer", "Untold", "Usage", "Version", "VersionStory", "Waiting",
+    "FileInfo", "FileStat", "FileStore", "Forgotten", "Full", "Future", "Gone", "Group", "GroupExists", "HandlesOpen", "HasJournal",
+    "History", "HistoryFull", "IntoItself", "IsDirectory", "IsRoot", "JournalDamaged", "JournalError", "JournalLocked", "JournalLost",
+    "KeepAll", "KeepOne", "KeepSafe", "Kept", "Landmarks", "Limits", "Mark", "Marked", "MarkExists", "MassRemoval", "Moment", "NameStory",
+    "NoEntry", "NoGroup", "NoHandle", "NoHistory", "NoJournal", "NoMark", "NoMemory", "NotAhead", "NotDirectory", "NotEmpty", "NotMember",
+    "NotPast", "NotRestorable", "NotWriter", "NoVersion", "Open", "OpenHandle", "Pass", "PathEntry", "Policy", "read_time", "Reader",
+    "ReadOnly", "Recovered", "Refused", "Removable", "Removal", "RemovalWaits", "Removed", "RestoredTree", "Session", "Stop", "Store",
+    "Story", "Syntax", "TextFile", "Time", "TooBig", "TreeStep", "UnknownAnswer", "Untold", "Usage", "Version", "VersionStory", "Waiting",
 ]
 # End of all names.

@@ -5,6 +5,7 @@ from __future__ import annotations
 from enum import Enum
 from typing import Any, NamedTuple, Optional, Union
 
+from ._errors import ElephantError
 from ._moments import Moment, moment_or_none
 from ._policies import Policy
 
@@ -373,17 +374,17 @@ class Answers(NamedTuple):
 
 
 class ClosedSession(NamedTuple):
-    """A session that a journal or a checkpoint left open, and the number of the version that its draft became (None: nothing was changed).
-    `path` is "" if a checkpoint has no live name of the file."""
+    """A session that a journal, a file or a checkpoint left open, and the number of the version that its draft became (None: nothing was
+    changed). `path` is "" if a file or a checkpoint has no live name of the file."""
 
     path: str
     version: Optional[int]
 
 
 class Recovered(NamedTuple):
-    """What the opening of a journal repaired: how many bytes after the last whole change it cut off (a store that is read only left them
-    out), which sessions it closed, and with `repair=True` the path of the file that has the bytes of a damaged end, else "". The opening of
-    a checkpoint only closes sessions."""
+    """What the opening of a journal or a file repaired: how many bytes after the last whole change it cut off (a store that is read only
+    left them out), which sessions it closed, and with `repair=True` the path of the file that has the bytes of a damaged end, else "". The
+    opening of a checkpoint only closes sessions."""
 
     cut: int = 0
     closed: tuple[ClosedSession, ...] = ()
@@ -391,3 +392,15 @@ class Recovered(NamedTuple):
 
     def __bool__(self) -> bool:
         return self != Recovered()
+
+
+class FileInfo(NamedTuple):
+    """The file of a `FileStore`: how many of its bytes count, how many of these it was made with, how many compactions there were since the
+    opening, without renewals, and whether the opening made the file. `tidied` is why the last compaction or renewal by itself failed (None:
+    it didn't)."""
+
+    length: int
+    start: int
+    compactions: int
+    tidied: Optional[ElephantError]
+    is_new: bool

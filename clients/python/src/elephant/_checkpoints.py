@@ -39,8 +39,14 @@ class Checkpoints(Trees):
             with self._change as core:
                 core.do(core.library.elephant_renew, "")
                 self._renewals += 1
+                self._renewed += 1
                 self._note_kept()
                 self._note_renewal()
+
+    @property
+    def renewed(self) -> int:
+        """How often it got fresh numbers since it was opened, by `renew` or by itself. A number of before means nothing."""
+        return self._renewed
 
     def directory_across(self, number: SupportsIndex) -> Optional[int]:
         """Returns the number that a directory will have after `renew`. None if there is no such directory. Each of these three calls takes

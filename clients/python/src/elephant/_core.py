@@ -88,8 +88,8 @@ class Core:
     `is_ahead` is set by `do`, `ask`, `clean` and `line`, the calls that may change something. Who has stored the change clears it.
     """
 
-    def __init__(self, limits: Limits, history: bool, checkpoint: Optional[bytes] = None) -> None:
-        """Opens a fresh store with the limits, or the one of a checkpoint, which has its own."""
+    def __init__(self, limits: Limits, history: bool, checkpoint: Optional[bytes] = None, file: Optional[bytes] = None) -> None:
+        """Opens a fresh store with the limits, or the one of a checkpoint or of a file, which has its own."""
         self.library = library()
         handle = c_void_p()
         self.library.elephant_new(byref(handle))
@@ -112,12 +112,23 @@ class Core:
         self._self = c_void_p.from_param(self.handle)
         into = c_void_p.from_param(self._short), c_size_t.from_param(SHORT)
         self._into_short = (_ZERO, *into, byref(self._number), byref(self._second))
-        if checkpoint is None:
+        self.whole, self.rest = 0, 0
+        """Of a file: how many bytes of it keep the store, and what follows them, as `elephant_journal_open` says."""
+        if file is not None:
+            self._open_file(file, history)
+        elif checkpoint is None:
             self._open(limits, history)
         else:
             code = self.library.elephant_open_checkpoint(self.handle, checkpoint, len(checkpoint), int(history))
             if code:
                 self.refuse(code)
+
+    def _open_file(self, file: bytes, history: bool) -> None:
+        rest = c_uint32()
+        code = self.library.elephant_journal_open(self.handle, file, len(file), int(history), self.number_at, byref(rest))
+        if code:
+            self.refuse(code)
+        self.whole, self.rest = self._number.value, rest.value
 
     def _open(self, limits: Limits, history: bool) -> None:
         row = LimitsRow(*(natural(number, name) for name, number in zip(limits._fields, limits)))
@@ -227,12 +238,22 @@ class Core:
 
     def checkpoint(self) -> bytes:
         """Returns the store as bytes."""
-        length = self.look(self.library.elephant_checkpoint, "checkpoint")
+        return self.text_of(self.library.elephant_checkpoint)
+
+    def text_of(self, call: Call) -> bytes:
+        """Makes a call that makes a text and returns its length, and returns the text."""
+        length = self.look(call, "text")
         room, copied = ctypes.create_string_buffer(min(length, _COPIED_AT_ONCE)), io.BytesIO()
         for offset in range(0, length, _COPIED_AT_ONCE):
-            count = self.look(self.library.elephant_answer, "checkpoint", offset, room, len(room))
+            count = self.look(self.library.elephant_answer, "text", offset, room, len(room))
             copied.write(memoryview(room)[:count])
         return copied.getvalue()
+
+    def settle(self) -> None:
+        """Says that the bytes of a file that were given last are on the disk."""
+        code = self.library.elephant_journal_written(self.handle)
+        if code:
+            self.refuse(code, "the file")
 
     def row_name(self, index: int) -> bytes:
         """Returns the name in a row of the kept list."""

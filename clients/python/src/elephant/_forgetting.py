@@ -91,7 +91,8 @@ class Forgetting(Saves):
     """A store whose versions you let go."""
 
     def __init__(self, opening: Opening) -> None:
-        self._memory = _Memory(opening.checkpoint is None) if opening.is_guarded else None
+        knows_past = opening.checkpoint is None and not opening.in_file
+        self._memory = _Memory(knows_past) if opening.is_guarded else None
         self._guard: Optional[Guard] = None
         self.waiting = Waiting(0, None)
         """What the guard kept at the last `pass_` or `clean`."""

@@ -5,7 +5,7 @@ from __future__ import annotations
 import os
 import threading
 import weakref
-from collections.abc import Iterator, Sequence
+from collections.abc import Callable, Iterator, Sequence
 from types import TracebackType
 from typing import Literal, NamedTuple, Optional, Union
 
@@ -40,12 +40,13 @@ class Opening(NamedTuple):
     repair: bool = False
     guard: bool = True
     checkpoint: Optional[bytes] = None
+    in_file: bool = False
 
     def check(self) -> None:
         """Raises ValueError if the arguments don't fit together."""
         if (isinstance(self.clock, str) and self.clock not in ("system", "manual")) or self.fsync not in ("always", "sync"):
             raise ValueError(f"clock is 'system' or 'manual', and fsync 'always' or 'sync', not {self.clock!r} and {self.fsync!r}")
-        if self.journal is None and (self.read_only or self.repair):
+        if self.journal is None and not self.in_file and (self.read_only or self.repair):
             raise ValueError("read_only and repair are for a store with a journal: give its path")
         if self.at is not None and not self.read_only:
             raise ValueError("at is for read_only=True; the clock of another store is moved by clock()")
@@ -53,7 +54,7 @@ class Opening(NamedTuple):
     @property
     def is_guarded(self) -> bool:
         """Whether a guard looks at what is to be removed: in a store of earlier times whose time follows the time of day."""
-        is_of_before = self.journal is not None or self.checkpoint is not None
+        is_of_before = self.journal is not None or self.checkpoint is not None or self.in_file
         return self.guard and is_of_before and not self.read_only and self.clock != "manual"
 
     def watch(self) -> Optional[Watch]:
@@ -107,7 +108,9 @@ class Turns:
         self._granted = 0
         """How many versions `clean` may remove before it asks the guard again, if no time passes and nothing else is changed."""
         self._renewals = 0
-        """How often its numbers were made anew. A number of before means nothing."""
+        """How often its numbers were made anew, or its handles dropped by a rollback. A number of before means nothing."""
+        self._renewed = 0
+        """How often its numbers were made anew."""
         self._core: Optional[Core] = None
         self._journal: Optional[Journal] = None
         self.recovered = Recovered()
@@ -138,24 +141,33 @@ class Turns:
         """Returns the core of a checkpoint, and closes the sessions and readers that were open in it."""
         core = Core(self._opening.limits, self._has_history, checkpoint)
         self._opening = self._opening._replace(limits=limits_in(checkpoint))
+        self.recovered, self._now = Recovered(0, self._close_open(core, lambda: checkpoint)), core.now()
+        return core
+
+    def _close_open(self, core: Core, checkpoint: Callable[[], bytes]) -> tuple[ClosedSession, ...]:
+        """Closes the sessions and readers that are open in a core, and returns the sessions that this ended. `checkpoint` returns the
+        bytes of the core."""
         closed = []
         for it in self._open_in(core, checkpoint):
             version = core.ask(core.library.elephant_close_handle, f"handle {it.handle}", it.handle)
             if version or it.version is None:
                 closed.append(ClosedSession(it.path or "", version or None))
-        self.recovered, self._now = Recovered(0, tuple(closed)), core.now()
-        return core
+        return tuple(closed)
 
-    def _open_in(self, core: Core, checkpoint: bytes) -> list[OpenHandle]:
-        """Returns the handles that are open in a checkpoint, of which a core was made."""
+    @staticmethod
+    def _open_numbers(core: Core) -> list[int]:
+        return [handle for handle in range(1, core.counts().handles + 1) if core.is_open(handle)]
+
+    def _open_in(self, core: Core, checkpoint: Callable[[], bytes]) -> list[OpenHandle]:
+        """Returns the handles that are open in a core."""
         if self._has_history:
             return read_handles(core.line(b"handles"))
-        numbers = [handle for handle in range(1, core.counts().handles + 1) if core.is_open(handle)]
+        numbers = self._open_numbers(core)
         if not numbers:
             return []
         try:
             # Only a store with a history says which files they are of.
-            told = Core(self._opening.limits, True, checkpoint)
+            told = Core(self._opening.limits, True, checkpoint())
         except HistoryFull:  # the limits of the checkpoint allow none
             return [OpenHandle(handle, 0, 0, None, None, None) for handle in numbers]
         try:
@@ -401,6 +413,13 @@ class Turns:
         """Yields the lines that were answered and aren't in the journal."""
         return iter(())
 
+    def _leave_to_parent(self) -> None:
+        """Leaves the journal to the process from which this one was forked."""
+        if self._journal is not None and not self.is_read_only:
+            self._fail("this process was forked from the one that has the journal")
+            self._is_over = True
+            self._journal.close()
+
     def _release(self) -> None:
         """Frees the store and closes the journal."""
         core, self._core = self._core, None
@@ -431,10 +450,7 @@ def _after_fork() -> None:
     """Makes a store with a journal fail in a forked child: else two processes would append to one journal."""
     for store in _stores:
         store._lock = threading.RLock()
-        if store._journal is not None and not store.is_read_only:
-            store._fail("this process was forked from the one that has the journal")
-            store._is_over = True
-            store._journal.close()
+        store._leave_to_parent()
 
 
 os.register_at_fork(after_in_child=_after_fork)

@@ -194,7 +194,8 @@ COMMANDS: dict[str, tuple[str, str, str]] = {
     ),
     "trim": (
         "trim", "ok trimmed K",
-        "Folds the stored events of the history, which frees their memory. Later answers stay the same. It is never refused.",
+        "Folds the stored events of the history, which frees their memory. Later answers stay the same. K says how many events an audit "
+        "loses: 'history' and 'answers' no longer have them. It is never refused.",
     ),
     "unlink": (
         "unlink P", "ok done",

@@ -1,7 +1,6 @@
 use Rattle.std.proofs.Common.{arith}
 use Rattle.ele_forecast_text.specs.declared.plan.Plan.{Plan}
 use Rattle.ele_forecast_forms.specs.Csv.{policy_headings}
-use Rattle.ele_output.proofs.Known.{puts_then}
 use Rattle.ele_output.proofs.Lists.{list_done, list_more}
 use Rattle.ele_forecast_text.proofs.Lines.{put_next, put_start}
 use Rattle.ele_forecast_forms.proofs.csv.put_heading_fields.Goals as goal
@@ -12,8 +11,7 @@ loop-plan-init g c =
 
 pub loop-plan-preserved : goal.loop-plan-preserved
 loop-plan-preserved g c =
-    let headings = puts_then c.put-in-loop-plan.ensures (puts_then c.put_policy.ensures (puts_then c.put-in-loop-plan-2.ensures (puts_then c.put_policy-in-loop-plan.ensures c.put-in-loop-plan-3.ensures))) in
-    list_more (λ (plan : Plan). policy_headings plan.policy) c.args.plans.now c.loop-plan.plan-index c.plan-item.result (omega arith) c.plan-item.is c.loop-plan.invariant headings
+    list_more (λ (plan : Plan). policy_headings plan.word.items) c.args.plans.now c.loop-plan.plan-index c.plan-item.result (omega arith) c.plan-item.is c.loop-plan.invariant (rw c.as_slice.ensures.value at c.put_policy_headings.ensures)
 
 pub returns : goal.returns
-returns g c = list_done (λ (plan : Plan). policy_headings plan.policy) c.args.plans.now c.loop-plan.plan-index c.loop-plan-test.false c.loop-plan.invariant
+returns g c = list_done (λ (plan : Plan). policy_headings plan.word.items) c.args.plans.now c.loop-plan.plan-index c.loop-plan-test.false c.loop-plan.invariant

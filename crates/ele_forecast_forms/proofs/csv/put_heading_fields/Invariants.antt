@@ -9,4 +9,4 @@ use Rattle.ele_forecast_forms.proofs.csv.put_heading_fields.Given as goal
 -- the headings so far are put, and the others are left
 abbrev pub invariant-loop-plan : goal.invariant-loop-plan
 invariant-loop-plan g l =
-    HasPut (outlet g.W.Write.contents l.fn.printer) (outlet g.W.Write.contents l.printer) (heading_fields l.details l.plans) (flat_map (λ (plan : Plan). policy_headings plan.policy) (drop l.plan-index l.plans))
+    HasPut (outlet g.W.Write.contents l.fn.printer) (outlet g.W.Write.contents l.printer) (heading_fields l.details l.plans) (flat_map (λ (plan : Plan). policy_headings plan.word.items) (drop l.plan-index l.plans))

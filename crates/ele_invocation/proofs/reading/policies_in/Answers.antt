@@ -1,16 +1,15 @@
-use Rattle.std.proofs.Common.{ℕ, List, [], Bor, subst, sym}
+use Rattle.std.proofs.Common.{ℕ, List, [], Bor}
 use Rattle.std.proofs.lemmas.List.{map_more}
 use Rattle.std.proofs.lemmas.Slice.Zip.{all_zipped_more}
-use Rattle.ele_tool_words.specs.PolicyWord.{MeansPolicy}
-use Rattle.ele_invocation.proofs.Spelled.{none_zips}
+use Rattle.ele_invocation.specs.Forecasts.{AsksPolicy}
+use Rattle.ele_invocation.proofs.Spelled.{none_zipped}
 use Rattle.ele_invocation.proofs.reading.policies_in.Goals as goal
 
-pub returns-in_default-clause-unread : goal.returns-in_default-clause-unread
-returns-in_default-clause-unread c ys =
-    none_zips (λ (word : Bor (List ℕ)). word.now) MeansPolicy c.args.words.now ys c.loop-word.word-index (record { ref_ptr = (0, 0); now = [] }) c.loop-word-test.true
-    (λ y means. c.in_default.not-Some y (c.read_policy.ensures.only y (subst (λ (w : List ℕ). MeansPolicy w y) (sym c.as_bytes.ensures.value) means)))
+pub returns-in-Err-clause-unread : goal.returns-in-Err-clause-unread
+returns-in-Err-clause-unread c =
+    none_zipped (λ (word : Bor (List ℕ)). word.now) AsksPolicy c.args.words.now c.loop-word.word-index (record { ref_ptr = (0, 0); now = [] }) c.in-Err.why c.loop-word-test.true c.in-Err.ensures.unread
 
 pub loop-word-preserved : goal.loop-word-preserved
 loop-word-preserved c =
     rw (c.in_ok-push.ensures.items, map_more (λ (word : Bor (List ℕ)). word.now) c.args.words.now c.loop-word.word-index (record { ref_ptr = (0, 0); now = [] }) c.loop-word-test.true)
-    (all_zipped_more MeansPolicy _ _ _ _ c.loop-word.invariant (subst (λ (w : List ℕ). MeansPolicy w c.in-Some.policy) c.as_bytes.ensures.value c.in-Some.ensures.found))
+    (all_zipped_more AsksPolicy _ _ _ _ c.loop-word.invariant c.in-Ok.ensures.read)

@@ -1,8 +1,8 @@
 use Rattle.std.specs.Prelude.{map, take}
 use Rattle.std.specs.List.{AllZip}
-use Rattle.ele_tool_words.specs.PolicyWord.{MeansPolicy}
+use Rattle.ele_invocation.specs.Forecasts.{AsksPolicy}
 use Rattle.ele_invocation.proofs.reading.policies_in.Given as goal
 
 -- those of the words so far
 abbrev pub invariant-loop-word : goal.invariant-loop-word
-invariant-loop-word l = AllZip MeansPolicy (map (λ word. word.now) (take l.word-index l.words)) l.policies.items
+invariant-loop-word l = AllZip AsksPolicy (map (λ word. word.now) (take l.word-index l.words)) l.policies.items

@@ -1,25 +1,38 @@
-use Rattle.std.proofs.Common.{rules, List, ℕ, subst, sym, ◌∙◌}
+use Rattle.std.proofs.Common.{rules, Bor, List, ℕ, Option, Some, codes, map, refl, subst, sym, ap₂, ◌∙◌, ◌≡◌}
+use Rattle.std.proofs.lemmas.Bool.{false≢true}
+use Rattle.std.proofs.lemmas.List.{length-map}
 use Rattle.std.proofs.lemmas.Option.{same_Some}
 use Rattle.std.specs.List.{AllZip}
-use Rattle.ele_tool_words.specs.PolicyWord.{MeansPolicy}
-use Rattle.ele_tool_words.specs.Time.{SpellsTime}
-use Rattle.ele_invocation.specs.Forecasts.{AsksRule}
-use Rattle.ele_invocation.proofs.Spelled.{none_weaker, values_are}
+use Rattle.clap.specs.Words.{Text, all_of, found_of, rows_of}
+use Rattle.ele_invocation.specs.Forecasts.{AsksPolicy, AsksRule, SpellsAt, policies_beside}
+use Rattle.ele_invocation.proofs.Asking.{asks_fit}
+use Rattle.ele_invocation.proofs.Spelled.{none_at_all, none_weaker, values_are}
 use Rattle.ele_invocation.proofs.reading.read_forecast.Goals as goal
 
 pub returns-in-Err-clause-unread : goal.returns-in-Err-clause-unread
 returns-in-Err-clause-unread c =
-    none_weaker _ _ c.in-Err.why (λ ask asks. (
+    let names = values_are c.values_of.result _ c.unwrap_or-names.result _ c.values_of.ensures c.unwrap_or-names.ensures (search rules) in
+    let times = values_are c.values_of-3.result _ c.unwrap_or-times.result _ c.values_of-3.ensures c.unwrap_or-times.ensures (search rules) in
+    let given = ap₂ policies_beside names (sym c.values_of-2.ensures) ∙ sym c.in-Some.ensures in
+    none_at_all _ c.in-Err.why (λ ask asks.
+    false≢true (c.in-Err.ensures.1 (asks_fit _ _ ask c.in_ok-form.form c.in-Some.words.now c.unwrap_or-times.result.now c.unwrap_or-names.result.now c.in_ok-form.ensures.only given times names asks)))
+
+pub returns-in-Err-policies_in-clause-unread : goal.returns-in-Err-policies_in-clause-unread
+returns-in-Err-policies_in-clause-unread c =
+    let names = values_are c.values_of.result _ c.unwrap_or-names.result _ c.values_of.ensures c.unwrap_or-names.ensures (search rules) in
+    none_weaker _ _ c.in-Err-policies_in.why (λ ask asks.
+    let beside = subst (λ (rules : List Text). policies_beside rules (all_of (codes "policy") (rows_of (found_of c.args.forecast.now))) ≡ Some asks.words) names asks.given in
+    let given = subst (λ (words : Option (List Text)). policies_beside (map (λ (w : Bor (List ℕ)). w.now) c.unwrap_or-names.result.now) words ≡ Some asks.words) (sym c.values_of-2.ensures) beside in (
       ask.policies.items,
-      subst (λ (words : List (List ℕ)). AllZip MeansPolicy words ask.policies.items) (same_Some _ _ (sym asks.given ∙ sym c.in-Some.ensures)) asks.policies,
-    )) c.in-Err.ensures.unread
+      subst (λ (words : List (List ℕ)). AllZip AsksPolicy words ask.policies.items) (same_Some _ _ (sym given ∙ sym c.in-Some.ensures)) asks.policies,
+    )) c.in-Err-policies_in.ensures.unread
 
 pub returns-in-Err-moments_in-clause-unread : goal.returns-in-Err-moments_in-clause-unread
 returns-in-Err-moments_in-clause-unread c =
     none_weaker _ _ c.in-Err-moments_in.why (λ ask asks. (
       ask.moments.items,
-      subst (λ (words : List (List ℕ)). AllZip SpellsTime words ask.moments.items)
-          (values_are c.values_of-2.result _ c.unwrap_or-times.result _ c.values_of-2.ensures c.unwrap_or-times.ensures (search rules)) asks.moments,
+      subst (λ (words : List (List ℕ)). AllZip (SpellsAt c.args.now) words ask.moments.items)
+          (values_are c.values_of-3.result _ c.unwrap_or-times.result _ c.values_of-3.ensures c.unwrap_or-times.ensures (search rules)) asks.moments,
     )) c.in-Err-moments_in.ensures.unread
 
 pub returns-in-Err-rules_in-clause-unread : goal.returns-in-Err-rules_in-clause-unread
@@ -27,8 +40,28 @@ returns-in-Err-rules_in-clause-unread c =
     none_weaker _ _ c.in-Err-rules_in.why (λ ask asks. (
       ask.rules.items,
       subst (λ (words : List (List ℕ)). AllZip AsksRule words ask.rules.items)
-          (values_are c.values_of-3.result _ c.unwrap_or-names.result _ c.values_of-3.ensures c.unwrap_or-names.ensures (search rules)) asks.rules,
+          (values_are c.values_of.result _ c.unwrap_or-names.result _ c.values_of.ensures c.unwrap_or-names.ensures (search rules)) asks.rules,
     )) c.in-Err-rules_in.ensures.unread
 
 pub returns-in-Err-clock_in-clause-unread : goal.returns-in-Err-clock_in-clause-unread
 returns-in-Err-clock_in-clause-unread c = none_weaker _ _ c.in-Err-clock_in.why (λ ask asks. (ask.clock, asks.clock)) c.in-Err-clock_in.ensures.unread
+
+pub returns-clause-read : goal.returns-clause-read
+returns-clause-read c =
+    let names = values_are c.values_of.result _ c.unwrap_or-names.result _ c.values_of.ensures c.unwrap_or-names.ensures (search rules) in
+    let times = values_are c.values_of-3.result _ c.unwrap_or-times.result _ c.values_of-3.ensures c.unwrap_or-times.ensures (search rules) in
+    record {
+      words = map (λ (word : Bor Text). word.now) c.in-Some.words.now;
+      given = ap₂ policies_beside names (sym c.values_of-2.ensures) ∙ sym c.in-Some.ensures;
+      policies = c.in-Ok.ensures.read;
+      named = c.is_named.ensures;
+      moments = rw times c.in-Ok-moments_in.ensures.read;
+      rules = rw names c.in-Ok-rules_in.ensures.read;
+      clock = c.in-Ok-clock_in.ensures.read;
+      labels = c.is_on-2.ensures;
+      sizes = c.is_on-3.ensures;
+      title = c.in_ok-title.ensures.title;
+      form = c.in_ok-form.ensures.found;
+      fit = rw (names, times, length-map c.in-Some.words.now (λ (word : Bor Text). word.now), length-map c.unwrap_or-times.result.now (λ (word : Bor Text). word.now), length-map c.unwrap_or-names.result.now (λ (word : Bor Text). word.now)) (c.in_default-check_fit.ensures.0 refl);
+      labelled = rw (names, sym c.is_on.ensures) (c.in_ok-check_labels.ensures.0 refl);
+    }

@@ -4,10 +4,11 @@ use Rattle.std.proofs.lemmas.List.{length-map, map-append}
 use Rattle.std.proofs.lemmas.Iterator.Splits.{YieldsList-from_slice_split}
 use Rattle.std.proofs.lemmas.Iterator.Consumers.{YieldsList-at, YieldsList-so_far, YieldsList-turn, YieldsList-end}
 use Rattle.std.specs.List.{AllZip, slice_split}
-use Rattle.ele_peer_rules.specs.declared.part.Part.{Part}
+use Rattle.ele_rule_parts.specs.declared.part.Part.{Part}
 use Rattle.ele_peer_rules.specs.declared.reading.RuleFault.{RuleFault}
 use Rattle.ele_peer_rules.specs.Kept.{rank_of}
-use Rattle.ele_peer_rules.specs.Words.{AreApart, has_rank, is_mark}
+use Rattle.ele_peer_rules.specs.Words.{AreApart, has_rank}
+use Rattle.ele_rule_parts.specs.Marked.{is_mark}
 use Rattle.ele_peer_rules.proofs.RuleParts.{IsOnly, all_spelled, apart_next, apart_push, each_part, first_wrong, next_same, no_part, only_push, room, same_count, same_ok}
 use Rattle.ele_peer_rules.proofs.reading.read_parts.Goals as goal
 
@@ -20,7 +21,7 @@ pub returns-then-is_full-clause-none : goal.returns-then-is_full-clause-none
 returns-then-is_full-clause-none c parts spelled =
     let turn = YieldsList-turn (YieldsList-at c.into_iter-option-iterator.ensures.into_iter_gives (YieldsList-from_slice_split _ (λ byte. byte == 44) c.args.text.now c.split-option-items.ensures.rest c.split-option-items.ensures.done c.split-option-items.ensures.closure (λ x b q h. search (rules, tests)))) c.loop-option.yielded _ c.loop-option.yielded_by _ _ c.in-Some.option c.in-Some.is c.next.ensures.steps in
     let words = map (λ (option : Bor (List ℕ)). option.now) c.loop-option.yielded in
-    let full = eqb-true (length c.loop-option.parts.items) 16 (sym c.is_full.ensures.value ∙ c.if-is_full.true) in
+    let full = eqb-true (length c.loop-option.parts.items) 18 (sym c.is_full.ensures.value ∙ c.if-is_full.true) in
     let kept = same_count c.args.tool words c.loop-option.parts.items (all_spelled c.args.tool words c.loop-option.parts.items c.loop-option.invariant.each) in
     let all = same_count c.args.tool (slice_split (is_mark 44) c.args.text.now) parts spelled.each in
     omega (arith, turn.0, full, kept, all, spelled.few, length-map c.loop-option.yielded (λ (option : Bor (List ℕ)). option.now))
@@ -34,14 +35,14 @@ returns-then-has_rank-clause-none c parts spelled =
     let next = next_same c.args.tool (slice_split (is_mark 44) c.args.text.now) (length c.loop-option.yielded) c.loop-option.parts.items parts c.in-Some.option.now c.in-Ok.part spelled.each each turn.0 turn.1 only in
     let apart = subst (λ (ps : List Part). AreApart [] ps) next.1 spelled.once in
     let new = apart_next [] c.loop-option.parts.items c.in-Ok.part next.0 apart in
-    let same = ap (λ (rank : ℕ). has_rank rank c.as_slice.result.now) c.rank.ensures.rank ∙ ap (λ (ps : List Part). has_rank (rank_of c.in-Ok.part) ps) c.as_slice.ensures.value in
+    let same = ap (λ (rank : ℕ). has_rank rank c.as_slice.result.now) c.rank_of.ensures.rank ∙ ap (λ (ps : List Part). has_rank (rank_of c.in-Ok.part) ps) c.as_slice.ensures.value in
     true≢false (sym c.if-has_rank.true ∙ c.has_rank.ensures ∙ same ∙ new)
 
 pub loop-option-preserved : goal.loop-option-preserved
 loop-option-preserved c =
     let words = map (λ (option : Bor (List ℕ)). option.now) c.loop-option.yielded in
     let only : IsOnly c.args.tool c.in-Some.option.now c.in-Ok.part = record { is = c.in-Ok.ensures.found; only = λ other s. same_ok c.in-Ok.part other (c.in-Ok.ensures.only other s) } in
-    let same = ap (λ (rank : ℕ). has_rank rank c.as_slice.result.now) c.rank.ensures.rank ∙ ap (λ (ps : List Part). has_rank (rank_of c.in-Ok.part) ps) c.as_slice.ensures.value in
+    let same = ap (λ (rank : ℕ). has_rank rank c.as_slice.result.now) c.rank_of.ensures.rank ∙ ap (λ (ps : List Part). has_rank (rank_of c.in-Ok.part) ps) c.as_slice.ensures.value in
     let new : has_rank (rank_of c.in-Ok.part) c.loop-option.parts.items ≡ false = sym same ∙ sym c.has_rank.ensures ∙ c.if-has_rank.false in
     let few = room (length c.loop-option.parts.items) _ c.is_full.ensures.value c.if-is_full.false c.loop-option.invariant.few in
     record {
@@ -71,7 +72,7 @@ returns-in-Err-clause-first c =
 
 pub returns-then-is_full-clause-first : goal.returns-then-is_full-clause-first
 returns-then-is_full-clause-first c =
-    let full = eqb-true (length c.loop-option.parts.items) 16 (sym c.is_full.ensures.value ∙ c.if-is_full.true) in
+    let full = eqb-true (length c.loop-option.parts.items) 18 (sym c.is_full.ensures.value ∙ c.if-is_full.true) in
     let turn = YieldsList-turn (YieldsList-at c.into_iter-option-iterator.ensures.into_iter_gives (YieldsList-from_slice_split _ (λ byte. byte == 44) c.args.text.now c.split-option-items.ensures.rest c.split-option-items.ensures.done c.split-option-items.ensures.closure (λ x b q h. search (rules, tests)))) c.loop-option.yielded _ c.loop-option.yielded_by _ _ c.in-Some.option c.in-Some.is c.next.ensures.steps in
     let far = YieldsList-so_far (YieldsList-at c.into_iter-option-iterator.ensures.into_iter_gives (YieldsList-from_slice_split _ (λ byte. byte == 44) c.args.text.now c.split-option-items.ensures.rest c.split-option-items.ensures.done c.split-option-items.ensures.closure (λ x b q h. search (rules, tests)))) c.loop-option.yielded _ c.loop-option.yielded_by in
     let each = subst (λ (ws : List (List ℕ)). AllZip (IsOnly c.args.tool) ws c.loop-option.parts.items) far c.loop-option.invariant.each in
@@ -81,7 +82,7 @@ returns-then-is_full-clause-first c =
 
 pub returns-then-has_rank-clause-first : goal.returns-then-has_rank-clause-first
 returns-then-has_rank-clause-first c =
-    let same = ap (λ (rank : ℕ). has_rank rank c.as_slice.result.now) c.rank.ensures.rank ∙ ap (λ (ps : List Part). has_rank (rank_of c.in-Ok.part) ps) c.as_slice.ensures.value in
+    let same = ap (λ (rank : ℕ). has_rank rank c.as_slice.result.now) c.rank_of.ensures.rank ∙ ap (λ (ps : List Part). has_rank (rank_of c.in-Ok.part) ps) c.as_slice.ensures.value in
     let again = sym same ∙ sym c.has_rank.ensures ∙ c.if-has_rank.true in
     let turn = YieldsList-turn (YieldsList-at c.into_iter-option-iterator.ensures.into_iter_gives (YieldsList-from_slice_split _ (λ byte. byte == 44) c.args.text.now c.split-option-items.ensures.rest c.split-option-items.ensures.done c.split-option-items.ensures.closure (λ x b q h. search (rules, tests)))) c.loop-option.yielded _ c.loop-option.yielded_by _ _ c.in-Some.option c.in-Some.is c.next.ensures.steps in
     let far = YieldsList-so_far (YieldsList-at c.into_iter-option-iterator.ensures.into_iter_gives (YieldsList-from_slice_split _ (λ byte. byte == 44) c.args.text.now c.split-option-items.ensures.rest c.split-option-items.ensures.done c.split-option-items.ensures.closure (λ x b q h. search (rules, tests)))) c.loop-option.yielded _ c.loop-option.yielded_by in

@@ -9,5 +9,5 @@ abbrev pub invariant-loop-option : goal.invariant-loop-option
 invariant-loop-option l = record {
   each : AllZip (IsOnly l.tool) (map (λ option. option.now) l.yielded) l.parts.items;
   once : AreApart [] l.parts.items;
-  few : length l.parts.items ≤ 16;
+  few : length l.parts.items ≤ 18;
 }

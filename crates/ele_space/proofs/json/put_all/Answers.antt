@@ -1,7 +1,7 @@
 use Rattle.std.proofs.Common.{◌∷◌, arith}
 use Rattle.ele_output.proofs.Known.{put_first, puts_as, puts_nil, puts_then}
 use Rattle.ele_output.proofs.Lists.{list_done, list_more}
-use Rattle.ele_space.proofs.Commas.{commas_are, no_commas}
+use Rattle.ele_forecast_forms.proofs.Commas.{commas_are, no_commas}
 use Rattle.ele_space.specs.Removals.{removal_json}
 use Rattle.ele_space.specs.declared.removals.Removals.{Removals}
 use Rattle.ele_space.proofs.json.put_all.Goals as goal

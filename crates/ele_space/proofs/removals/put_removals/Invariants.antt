@@ -9,4 +9,4 @@ use Rattle.ele_space.proofs.removals.put_removals.Given as goal
 -- the lines of the policies so far are put, and the others are left
 abbrev pub invariant-loop-removal : goal.invariant-loop-removal
 invariant-loop-removal g l =
-    HasPut (outlet g.W.Write.contents l.fn.printer) (outlet g.W.Write.contents l.printer) (removals_text l.named l.details l.removals) (flat_map (λ (removal : Removals). flat_map (due_line l.named l.details removal.policy) removal.due.items) (drop l.removal-index l.removals))
+    HasPut (outlet g.W.Write.contents l.fn.printer) (outlet g.W.Write.contents l.printer) (removals_text l.named l.details l.removals) (flat_map (λ (removal : Removals). flat_map (due_line l.named l.details removal.word.items) removal.due.items) (drop l.removal-index l.removals))

@@ -9,4 +9,4 @@ use Rattle.ele_space.proofs.text.put_amounts.Given as goal
 -- the headings so far are put, and the others and the lines are left
 abbrev pub invariant-loop-plan : goal.invariant-loop-plan
 invariant-loop-plan g l =
-    HasPut (outlet g.W.Write.contents l.fn.printer) (outlet g.W.Write.contents l.printer) (amounts_text l.plans l.rows) (flat_map (λ (plan : Plan). table_columns plan.policy) (drop l.plan-index l.plans) ++ (codes "\n" ++ flat_map (amounts_line 32 true) l.rows))
+    HasPut (outlet g.W.Write.contents l.fn.printer) (outlet g.W.Write.contents l.printer) (amounts_text l.plans l.rows) (flat_map (λ (plan : Plan). table_columns plan.word.items) (drop l.plan-index l.plans) ++ (codes "\n" ++ flat_map (amounts_line 32 true) l.rows))

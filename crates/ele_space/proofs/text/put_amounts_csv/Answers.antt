@@ -12,8 +12,8 @@ loop-plan-init g c = put_start c.put.ensures
 
 pub loop-plan-preserved : goal.loop-plan-preserved
 loop-plan-preserved g c =
-    list_more_then (λ (plan : Plan). csv_columns c.args.sizes plan.policy) c.args.plans.now c.loop-plan.plan-index c.plan-item.result (codes "\n" ++ flat_map (amounts_line 44 c.args.sizes) c.args.rows.now) (omega arith) c.plan-item.is c.loop-plan.invariant c.put_csv_columns.ensures
+    list_more_then (λ (plan : Plan). csv_columns c.args.sizes plan.word.items) c.args.plans.now c.loop-plan.plan-index c.plan-item.result (codes "\n" ++ flat_map (amounts_line 44 c.args.sizes) c.args.rows.now) (omega arith) c.plan-item.is c.loop-plan.invariant (rw c.as_slice.ensures.value at c.put_csv_columns.ensures)
 
 pub returns : goal.returns
 returns g c =
-    put_last (list_past (λ (plan : Plan). csv_columns c.args.sizes plan.policy) c.args.plans.now c.loop-plan.plan-index (codes "\n" ++ flat_map (amounts_line 44 c.args.sizes) c.args.rows.now) c.loop-plan-test.false c.loop-plan.invariant) (puts_then c.put-2.ensures c.put_rows.ensures)
+    put_last (list_past (λ (plan : Plan). csv_columns c.args.sizes plan.word.items) c.args.plans.now c.loop-plan.plan-index (codes "\n" ++ flat_map (amounts_line 44 c.args.sizes) c.args.rows.now) c.loop-plan-test.false c.loop-plan.invariant) (puts_then c.put-2.ensures c.put_rows.ensures)

@@ -9,4 +9,4 @@ use Rattle.ele_space.proofs.text.put_amounts_csv.Given as goal
 -- the headings so far are put, and the others and the rows are left
 abbrev pub invariant-loop-plan : goal.invariant-loop-plan
 invariant-loop-plan g l =
-    HasPut (outlet g.W.Write.contents l.fn.printer) (outlet g.W.Write.contents l.printer) (amounts_csv l.sizes l.plans l.rows) (flat_map (λ (plan : Plan). csv_columns l.sizes plan.policy) (drop l.plan-index l.plans) ++ (codes "\n" ++ flat_map (amounts_line 44 l.sizes) l.rows))
+    HasPut (outlet g.W.Write.contents l.fn.printer) (outlet g.W.Write.contents l.printer) (amounts_csv l.sizes l.plans l.rows) (flat_map (λ (plan : Plan). csv_columns l.sizes plan.word.items) (drop l.plan-index l.plans) ++ (codes "\n" ++ flat_map (amounts_line 44 l.sizes) l.rows))

@@ -5,7 +5,7 @@ returns-in-Ok g c =
     record {
       ended = c.write_forecast.result;
       foretold = c.write_forecast.ensures;
-      told = rw c.in-Ok.is (c.tell.ensures.told, c.tell.ensures.status);
+      told = rw c.in-Ok.is (c.tell_done.ensures.told, c.tell_done.ensures.status);
     }
 
 pub returns-in-Err : goal.returns-in-Err

@@ -40,3 +40,9 @@ returns-in-NotUnderstood g c =
 pub returns-in-NoMemory : goal.returns-in-NoMemory
 returns-in-NoMemory g c =
     rw c.in-NoMemory.is (Keeps-refl _, Keeps-refl _, c.tell-in-NoMemory.ensures.told, c.tell-in-NoMemory.ensures.status)
+
+pub returns-in-Evidence : goal.returns-in-Evidence
+returns-in-Evidence g c = rw c.in-Evidence.is c.run_evidence.ensures
+
+pub returns-in-Verify : goal.returns-in-Verify
+returns-in-Verify g c = rw c.in-Verify.is c.run_verify.ensures

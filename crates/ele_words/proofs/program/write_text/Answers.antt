@@ -1,7 +1,4 @@
-use Rattle.std.specs.Prelude.{is_ok}
-use Rattle.ele_words.proofs.Flushed.{text_flushed}
 use Rattle.ele_words.proofs.program.write_text.Goals as goal
 
 pub returns : goal.returns
-returns g c =
-    rw c.as_bytes.ensures.value at (text_flushed _ _ _ _ _ (is_ok c.flush-flushed.result) c.after_flush.result c.in_ok-written.ensures c.flush-flushed.ensures.bytes c.after_flush.ensures)
+returns g c = rw c.as_bytes.ensures.value at c.write_bytes.ensures

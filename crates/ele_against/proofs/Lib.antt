@@ -1,0 +1,2 @@
+-- names and lines, one after another
+pub mod NamesMore

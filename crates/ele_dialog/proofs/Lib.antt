@@ -1,0 +1,11 @@
+mod Basics
+-- the first byte of a kind
+mod Lines
+mod Headed
+mod Helped
+-- bytes, line after line
+mod Read
+mod Reasons
+mod Next
+-- what was typed and answered so far
+mod Typed

@@ -1,0 +1,11 @@
+//! A run whose lines a person types, and whose answers a person reads: a heading above rows, the
+//! reason of a bad line at once, and `help`. A contract sees the lines, and the text that answers them.
+#![tactic(auto)]
+
+mod answer;
+mod dialog;
+mod heading;
+mod help;
+mod input;
+
+pub use dialog::run_dialog;

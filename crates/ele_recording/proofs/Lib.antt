@@ -1,0 +1,2 @@
+-- line after line
+pub mod Heard

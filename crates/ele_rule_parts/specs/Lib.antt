@@ -1,0 +1,5 @@
+pub mod Marked
+pub mod Months
+pub mod Shown
+pub mod Spans
+pub mod Kinds

@@ -1,5 +1,0 @@
-use Rattle.ele_output.proofs.Known.{puts_then}
-use Rattle.ele_space.proofs.removals.put_policy_if.Goals as goal
-
-pub returns-then-named : goal.returns-then-named
-returns-then-named g c = rw c.if-named.true (puts_then c.put_byte.ensures c.put_policy.ensures)

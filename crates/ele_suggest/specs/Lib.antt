@@ -1,0 +1,10 @@
+pub mod Versions
+pub mod Asked
+pub mod Worked
+pub mod Best
+pub mod Words
+pub mod Candidates
+pub mod Suggested
+pub mod Listed
+pub mod SuggestedText
+pub mod SuggestedJson
