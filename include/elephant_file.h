@@ -20,8 +20,8 @@
  *
  * WHAT AN OPENING FINDS after the last whole change, and does:
  *   - nothing, or space that nothing was written to: cuts it off;
- *   - a change that ends where the file ends, or in which a block of 512 bytes still has that text to its end: its commit never returned,
- *     as after a kill or a power failure. Cuts it off, and info.cut says of how many bytes;
+ *   - a change that ends where the file ends, that lacks a block of 512 bytes, which still has that text, or that has only that text from
+ *     some place on: its commit never returned, as after a kill or a power failure. Cuts it off, and info.cut says of how many bytes;
  *   - anything else: ELEPHANT_FILE_DAMAGED, and the file stays as it is. See options.repair. A file system that doesn't write data before
  *     a file's length, as ext4 with data=writeback, may leave zeros after a power failure where the file was made longer, which look so.
  *

@@ -220,12 +220,14 @@ static uint64_t written_end(const unsigned char *bytes, uint64_t from, uint64_t 
     return from;
 }
 
-/* The first place from which on a block still has the filling: what was to be written there isn't. */
+/* The first place from which on what was to be written isn't there: a part of a block that still has the filling, all of it, or the place
+ * after which nothing was written. That a block ends with some bytes of the filling says nothing, since a change may have them. */
 static uint64_t first_gap(const unsigned char *bytes, uint64_t from, uint64_t end) {
+    const uint64_t written = written_end(bytes, from, end);
     while (from < end) {
         uint64_t next = block_of(from) + BLOCK < end ? block_of(from) + BLOCK : end;
         uint64_t gap = filled_from(bytes, from, next);
-        if (gap < next) return gap;
+        if (gap == from || (gap < next && gap >= written)) return gap;
         from = next;
     }
     return end;

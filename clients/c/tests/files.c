@@ -434,6 +434,29 @@ static void damage_before_a_hole_is_damage(void) {
     want_damaged(&torn, 2, &copies);
 }
 
+/* A content may have the bytes with which a block of the filling ends, as text with its spaces does. */
+static void text_in_a_damaged_change_is_no_hole(void) {
+    static unsigned char spaces[MOST_CHANGE];
+    static struct image image;
+    elephant_file *f = opened(in_folder(path, "text"), NULL);
+    const uint64_t whole = info_of(f).length;
+    uint64_t version;
+    memset(spaces, ' ', sizeof spaces);
+    OK(elephant_save(elephant_file_store(f), TEXT("/f"), spaces, sizeof spaces, &version));
+    OK(elephant_file_commit(f));
+    commit(f, 2);
+    for (int is_open = 1; is_open >= 0; is_open--) {
+        if (!is_open) elephant_file_close(f);
+        load(&image, path);
+        for (size_t at = whole; at < whole + sizeof spaces; at += 37) {
+            image.at[at] ^= 1;
+            store(&image, image.length, in_folder(other, "damaged text"));
+            WANT(refused(ELEPHANT_FILE_DAMAGED, other, NULL).place == whole);
+            image.at[at] ^= 1;
+        }
+    }
+}
+
 /* An extension of the file that a power failure stopped may leave zeros after the filling, and no change was there yet. */
 static void unfilled_space_is_no_damage(void) {
     static struct image zeros;
@@ -786,6 +809,7 @@ int main(int count, char **words) {
     each_torn_change_is_cut_off();
     each_change_with_a_hole_is_cut_off();
     damage_before_a_hole_is_damage();
+    text_in_a_damaged_change_is_no_hole();
     unfilled_space_is_no_damage();
     zeros_in_place_of_a_change_are_damage();
     a_lost_file_is_told();

@@ -511,6 +511,24 @@ class Damage(InFolder):
             self.assertEqual((store.read("/f"), store.recovered.cut, self.path.stat().st_size), (b"two", written, whole))
             store.close()
 
+    def test_text_in_a_damaged_change_is_no_hole(self) -> None:
+        """A content may have the bytes with which a block of the filling ends, as text with its spaces does."""
+        store = self.open()
+        whole = store.info.length
+        store.save("/f", b" " * (4 * BLOCK))
+        store.commit()
+        self.saved(store, b"more")
+        store.close()
+        data = bytearray(self.path.read_bytes())
+        for place in range(whole, whole + 4 * BLOCK, 101):
+            data[place] ^= 1
+            for more in (b"", filling(len(data), len(data) // BLOCK * BLOCK + 4 * BLOCK)):
+                self.path.write_bytes(data + more)
+                with self.assertRaises(JournalDamaged) as caught:
+                    self.open()
+                self.assertEqual(caught.exception.offset, whole)
+            data[place] ^= 1
+
     def test_unfilled_space_is_no_damage_and_zeros_in_place_of_a_change_are(self) -> None:
         ends, data = self.written(), self.path.read_bytes()
         end = (ends[3] // BLOCK + 2) * BLOCK

@@ -65,11 +65,13 @@ def written_end(data: bytes, start: int, end: int) -> int:
 
 
 def first_gap(data: bytes, start: int, end: int) -> int:
-    """Returns the first place from which on a block still has the filling: what was to be written there isn't."""
+    """Returns the first place from which on what was to be written isn't there: a part of a block that still has the filling, all of it, or
+    the place after which nothing was written. That a block ends with some bytes of the filling says nothing, since a change may have them."""
+    written = written_end(data, start, end)
     while start < end:
         following = min(start // BLOCK * BLOCK + BLOCK, end)
         gap = filled_from(data, start, following)
-        if gap < following:
+        if gap == start or written <= gap < following:
             return gap
         start = following
     return end
