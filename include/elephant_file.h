@@ -110,8 +110,8 @@ int32_t elephant_file_rollback(elephant_file *f);
 int32_t elephant_file_sync(elephant_file *f);
 
 /* Writes the store as it is now into PATH.elephant-new, of the same mode and owner, syncs it, and renames it over the file. It commits too.
- * If it fails, the file is as before; only if the very last step fails, the sync of the folder, the new one is there and STUCK. It takes as
- * long as to write all that is held.
+ * If it fails, the file is as before; only if the very last step fails, the sync of the folder, the new one is there and STUCK. What a
+ * kill leaves of the new file the next opening removes. It takes as long as to write all that is held.
  * A commit and an opening do this by themselves when the file has more than 1 MiB and twice the bytes that it had when it was made. If
  * that fails, info.tidied has the code, and the commit or the opening has succeeded all the same. READ_ONLY, LOST, SYSTEM, NO_MEMORY. */
 int32_t elephant_file_compact(elephant_file *f);

@@ -799,8 +799,11 @@ int32_t elephant_file_open(const char *path, const elephant_file_options *option
         return code;
     }
     expect_renewal(f);
-    /* A kill may have come before the last commit did so. */
-    if (!f->options.read_only && f->condition == SOUND) tidy_by_itself(f);
+    if (!f->options.read_only) {
+        /* A kill may have come before a new file took this one's place, or before the last commit tidied. */
+        unlink(f->spare);
+        if (f->condition == SOUND) tidy_by_itself(f);
+    }
     *out = f;
     return ELEPHANT_OK;
 }

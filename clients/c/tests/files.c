@@ -609,6 +609,16 @@ static void a_compaction_keeps_mode_and_owner(void) {
     want_has(path, 41);
 }
 
+/* A kill may leave the file that was to take the place of one. */
+static void an_opening_removes_what_a_kill_left(void) {
+    elephant_file_close(opened(in_folder(path, "left"), NULL));
+    store(&sample.open, 99, in_folder(other, "left.elephant-new"));
+    want_has(path, 0);
+    WANT(exists(other));
+    elephant_file_close(opened(path, NULL));
+    WANT(!exists(other));
+}
+
 static void a_link_stays_a_link(void) {
     struct stat found;
     elephant_file *f;
@@ -817,6 +827,7 @@ int main(int count, char **words) {
     a_full_disk_leaves_the_file();
     a_change_is_rolled_back();
     a_compaction_keeps_mode_and_owner();
+    an_opening_removes_what_a_kill_left();
     a_link_stays_a_link();
     a_long_file_is_compacted(false);
     a_long_file_is_compacted(true);

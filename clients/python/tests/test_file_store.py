@@ -321,6 +321,15 @@ class Tidying(InFolder):
         self.assertEqual(sorted(it.name for it in self.folder.iterdir()), ["link", "store.journal"])
         self.assertTrue(link.is_symlink())
 
+    def test_an_opening_removes_what_a_kill_left(self) -> None:
+        self.open().close()
+        left = Path(f"{self.path}.elephant-new")
+        left.write_bytes(b"left by a kill")
+        self.open(read_only=True).close()
+        self.assertTrue(left.exists())
+        self.open()
+        self.assertFalse(left.exists())
+
     def test_it_grows_only_to_twice_what_it_holds(self) -> None:
         store = self.open()
         with self.assertLogs("elephant", "INFO") as log:

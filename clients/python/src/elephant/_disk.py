@@ -211,7 +211,11 @@ class Disk:
         self.is_new = False
         if not self.read_only:
             self._make_durable()
-            return self._read_once(history)
+            core = self._read_once(history)
+            # A kill may have come before a new file took this one's place.
+            with suppress(OSError):
+                os.unlink(self._spare)
+            return core
         for _ in range(_TRIES - 1):
             with suppress(JournalDamaged):
                 return self._read_once(history)
@@ -412,10 +416,15 @@ class Disk:
 
     # Another file in place of this one.
 
+    @property
+    def _spare(self) -> str:
+        """The path of the file that takes this one's place."""
+        return f"{self.path}.elephant-new"
+
     def replace(self, text: bytes) -> None:
         """Writes the bytes of a new file beside this one, and puts it in this one's place. If it fails, this one is as before. If only the
         last step does, the sync of the folder, the new one is there, and `require_sync` says so."""
-        spare, file = f"{self.path}.elephant-new", -1
+        spare, file = self._spare, -1
         try:
             # Its maker has this one's lock, so a file of that name is what a killed process left.
             with suppress(FileNotFoundError):
