@@ -509,7 +509,6 @@ class Disk:
 
 
 def _write_all(file: int, text: bytes, place: int) -> None:
-    view = memoryview(text)
-    while view:
-        written = os.pwrite(file, view, place)
-        view, place = view[written:], place + written
+    written = os.pwrite(file, text, place)
+    while written < len(text):
+        written += os.pwrite(file, memoryview(text)[written:], place + written)

@@ -36,15 +36,25 @@ class _RenewalTime:
         self._from = {name: -(-limit * _NEARLY_ALL // _ALL) for name, limit in self._most.items()}
         self._nearly = dict(self._from)
         self._waited, self._wait = 0, 0
+        self._look_from = 0
+        """The length of the file from which on a count may be nearly at its limit. What is done takes more bytes than it makes of a kind."""
 
-    def has_come(self, counts: Counts) -> bool:
-        made = counts._asdict()
+    def has_come(self, length: int, counts: Callable[[], Counts]) -> bool:
+        if length < self._look_from:
+            return False
+        made = counts()._asdict()
         if any(made[name] >= count for name, count in self._from.items()):
             return True
-        if not self._wait or all(made[name] < count for name, count in self._nearly.items()):
+        least = min((count - made[name] for name, count in self._nearly.items()), default=0)
+        self._look_from = length + max(least, 0)
+        if not self._wait or least > 0:
             return False
         self._waited += 1
         return self._waited >= self._wait
+
+    def look_anew(self) -> None:
+        """Notes that the file has another length, or lacks the bytes of what was done."""
+        self._look_from = 0
 
     def is_worth(self, counts: Counts, renewed: Counts) -> bool:
         """Whether each count that is nearly at its limit is below half of it in the renewed store."""
@@ -217,6 +227,7 @@ class FileStore(Store):
             text = core.text_of(core.library.elephant_journal_compact)
             self._change_file(partial(self._disk.replace, text), core.settle)
             self._compactions += 1
+            self._renewal_time.look_anew()
             self._disk.require_sync()
 
     def renew(self) -> None:
@@ -289,7 +300,7 @@ class FileStore(Store):
         return fault
 
     def _wants_renewal(self) -> bool:
-        return self._core is not None and self._renewal_time.has_come(self._core.counts())
+        return self._core is not None and self._renewal_time.has_come(self._disk.length, self._core.counts)
 
     def _renew_if_worth(self) -> None:
         assert self._core is not None
