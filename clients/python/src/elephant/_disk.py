@@ -66,7 +66,7 @@ def written_end(data: bytes, start: int, end: int) -> int:
 
 def first_gap(data: bytes, start: int, end: int) -> int:
     """Returns the first place from which on what was to be written isn't there: a part of a block that still has the filling, all of it, or
-    the place after which nothing was written. That a block ends with some bytes of the filling says nothing, since a change may have them."""
+    the place after which nothing was written. That a block ends with bytes of the filling says nothing, since a change may have them."""
     written = written_end(data, start, end)
     while start < end:
         following = min(start // BLOCK * BLOCK + BLOCK, end)

@@ -37,7 +37,7 @@ class _RenewalTime:
         self._nearly = dict(self._from)
         self._waited, self._wait = 0, 0
         self._look_from = 0
-        """The length of the file from which on a count may be nearly at its limit. What is done takes more bytes than it makes of a kind."""
+        """The length of the file from which on a count may be near at its limit: what is done takes more bytes than it makes of a kind."""
 
     def has_come(self, length: int, counts: Callable[[], Counts]) -> bool:
         if length < self._look_from:
