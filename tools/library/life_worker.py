@@ -1,0 +1,55 @@
+"""A store in a file that `file_life` drives, kills and opens again.
+
+    life_worker.py PATH FSYNC LIMITS
+
+Each line of standard input is in JSON: lines of the script language, and what to do after them. Its answer, a line too, has the answers of
+these lines, the error of what was done, if it had one, and how the store is. At the end of its input it closes the store.
+"""
+
+from __future__ import annotations
+
+import json
+import os
+import sys
+from typing import Any
+
+from elephant import ElephantError, FileStore, Limits
+from elephant._turns import Fsync
+
+
+def tell(what: dict[str, Any]) -> None:
+    data = json.dumps(what).encode() + b"\n"
+    while data:
+        data = data[os.write(1, data):]
+
+
+def state(store: FileStore) -> dict[str, Any]:
+    return {"renewed": store.renewed, "compactions": store.info.compactions, "length": store.info.length, "counts": store.counts()._asdict()}
+
+
+def done(store: FileStore, what: str) -> str:
+    """Calls a method of the store, if there is one to call, and returns the name of the error that it raised."""
+    if what:
+        try:
+            getattr(store, what)()
+        except ElephantError as error:
+            return type(error).__name__
+    return ""
+
+
+def main() -> int:
+    path, fsync, given = sys.argv[1:]
+    syncs: Fsync = "always" if fsync == "always" else "sync"
+    with FileStore(path, clock="manual", guard=False, fsync=syncs, limits=Limits(**json.loads(given))) as store:
+        tell(state(store))
+        for line in sys.stdin:
+            asked = json.loads(line)
+            answers = [store.line(it) for it in asked["lines"]]
+            before = store.counts()._asdict()
+            error = done(store, asked["then"])
+            tell({"answers": answers, "error": error, "before": before, **state(store)})
+    return 0
+
+
+if __name__ == "__main__":
+    sys.exit(main())
