@@ -24,7 +24,7 @@ def tell(what: dict[str, Any]) -> None:
 
 
 def state(store: FileStore) -> dict[str, Any]:
-    return {"renewed": store.renewed, "compactions": store.info.compactions, "length": store.info.length, "counts": store.counts()._asdict()}
+    return {"renewed": store.renewed, "compactions": store.info.compactions, "counts": store.counts()._asdict()}
 
 
 def done(store: FileStore, what: str) -> str:
@@ -40,7 +40,8 @@ def done(store: FileStore, what: str) -> str:
 def main() -> int:
     path, fsync, given = sys.argv[1:]
     syncs: Fsync = "always" if fsync == "always" else "sync"
-    with FileStore(path, clock="manual", guard=False, fsync=syncs, limits=Limits(**json.loads(given))) as store:
+    limits = Limits(**json.loads(given))
+    with FileStore(path, clock="manual", guard=False, fsync=syncs, limits=limits) as store:
         tell(state(store))
         for line in sys.stdin:
             asked = json.loads(line)
