@@ -31,6 +31,7 @@ row command.Create = takes (codes "create" ∷ []) (Path ∷ [])
 row command.Changes = asks (codes "changes" ∷ []) (Moment ∷ Moment ∷ Path ∷ [])
 row command.Due = takes (codes "due" ∷ []) []
 row command.Default = takes (codes "default" ∷ []) (Path ∷ Policy ∷ [])
+row command.Expiring = asks (codes "expiring" ∷ []) (Moment ∷ [])
 row command.GroupMake = takes (codes "group" ∷ codes "make" ∷ []) (Name ∷ [])
 row command.GroupDrop = takes (codes "group" ∷ codes "drop" ∷ []) (Name ∷ [])
 row command.GroupAdd = takes (codes "group" ∷ codes "add" ∷ []) (Name ∷ Path ∷ [])

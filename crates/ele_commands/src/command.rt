@@ -21,6 +21,7 @@ pub enum Command {
     Changes,
     Due,
     Default,
+    Expiring,
     GroupMake,
     GroupDrop,
     GroupAdd,
@@ -81,7 +82,7 @@ pub type Row = (
 
 /// A row for each command, in the order of `Command`: those with one first letter stand together, and
 /// of these the ones that come often first.
-pub static ROWS: [Row; 47] = [
+pub static ROWS: [Row; 48] = [
     (Command::Ahead, "ahead", "", &[Moment], Explaining),
     (Command::Answers, "answers", "", &[], Explaining),
     (Command::Abandon, "abandon", "", &[Handle], Always),
@@ -98,6 +99,7 @@ pub static ROWS: [Row; 47] = [
     ),
     (Command::Due, "due", "", &[], Always),
     (Command::Default, "default", "", &[Path, Policy], Always),
+    (Command::Expiring, "expiring", "", &[Moment], Explaining),
     (Command::GroupMake, "group", "make", &[Name], Always),
     (Command::GroupDrop, "group", "drop", &[Name], Always),
     (Command::GroupAdd, "group", "add", &[Name, Path], Always),
@@ -173,7 +175,7 @@ pub enum Topic {
 }
 
 /// For help, what each command is about and how it is answered, in the order of `Command`.
-pub static HELP: [(Topic, &str); 47] = [
+pub static HELP: [(Topic, &str); 48] = [
     (
         Topic::Why,
         "ok ahead K, then K lines - RIPE FILE NUMBER in order",
@@ -199,6 +201,10 @@ pub static HELP: [(Topic, &str); 47] = [
         "ok due K, then K lines - RIPE FILE NUMBER in order",
     ),
     (Topic::Policies, "ok done"),
+    (
+        Topic::Why,
+        "ok expiring K, then K lines - RIPE FILE NUMBER PATH UNTIL in order",
+    ),
     (Topic::Groups, "ok done"),
     (Topic::Groups, "ok done"),
     (Topic::Groups, "ok done"),

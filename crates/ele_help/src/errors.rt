@@ -175,7 +175,7 @@ fn meaning_of(refusal: &Refusal) -> &'static str {
             "a limit is reached, for good. The word after it says which; see 'elephant help limits'"
         }
         Refusal::NotAhead => {
-            "the end of a mark must be later than now, the moment of 'ahead' not earlier, nor the second of 'changes' than its first"
+            "the end of a mark must be later than now, the moment of 'ahead' or 'expiring' not earlier, nor the second of 'changes' than its first"
         }
     }
 }

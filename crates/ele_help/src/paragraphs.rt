@@ -2,7 +2,7 @@
 //! examples.
 
 /// What a command does, and an example or nothing, in the order of `Command`.
-pub(crate) static PARAGRAPHS: [(&str, &str); 47] = [
+pub(crate) static PARAGRAPHS: [(&str, &str); 48] = [
     // ahead
     (
         "Lists what 'due' would list at M if only the clock moves. It needs the option\n--explain. NotAhead if M is earlier than now.",
@@ -52,6 +52,11 @@ pub(crate) static PARAGRAPHS: [(&str, &str); 47] = [
     (
         "Sets the policy of files and directories that are made in P later.\n'elephant help policies' explains POL. NotDirectory if P is a file.",
         "\nExample:\n    default / safe:3600    ok done\n",
+    ),
+    // expiring
+    (
+        "Lists what 'ahead M' lists, with the path of each file: the one that leads to it\nnow or, if none does, the last one that did, and until when ('-' if it still\nleads there). 'expiring' of now is 'due' with paths. It needs the option\n--explain. NotAhead if M is earlier than now.",
+        "\nExample:\n    save /f 61        ok version 2\n    expiring 86400    ok expiring 1\n                      - 86400 1 1 /f -\n",
     ),
     // group make
     (

@@ -26,7 +26,7 @@ fn is_named(row: &Row, first: &str, second: Option<&str>) -> bool
 
 // The place of a command in the tables.
 fn place_of(command: Command) -> usize
-    ensures { result < 47 }
+    ensures { result < 48 }
 {
     command as usize
 }

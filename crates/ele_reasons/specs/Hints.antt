@@ -36,6 +36,7 @@ audit_hint word =
     else if bytes_eq word (codes "story") then Explaining
     else if bytes_eq word (codes "removals") then Explaining
     else if bytes_eq word (codes "changes") then Explaining
+    else if bytes_eq word (codes "expiring") then Explaining
     else shell_hint word
 
 -- of a word that begins no command of the run

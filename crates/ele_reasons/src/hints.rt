@@ -62,6 +62,8 @@ fn audit_hint(word: &[u8]) -> Hint
         Hint::Explaining
     } else if word == b"changes".as_slice() {
         Hint::Explaining
+    } else if word == b"expiring".as_slice() {
+        Hint::Explaining
     } else {
         shell_hint(word)
     }

@@ -134,6 +134,7 @@ asks_of command.Story ended x = (asks.Question (question.Story x.first), refl, r
 asks_of command.Removals ended x = (asks.Question question.Removals, refl, refl)
 asks_of command.Changes false x = (asks.Question (question.Changes x.first x.rest.first None), refl, refl)
 asks_of command.Changes true x = (asks.Question (question.Changes x.first x.rest.first (Some x.rest.rest.first)), refl, refl)
+asks_of command.Expiring ended x = (asks.Question (question.Expiring x.first), refl, refl)
 
 -- and so do values of its kinds
 asked_by : (name : Command) (ended : Bool) (values : List Value) → value_kinds values ≡ kinds_if name ended → (asked : Line) × ((line_parts asked).0 ≡ name) × ((line_parts asked).1 ≡ values)

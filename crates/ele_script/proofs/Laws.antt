@@ -50,6 +50,7 @@ asked_kinds (asks.Question (question.Story path)) = refl
 asked_kinds (asks.Question question.Removals) = refl
 asked_kinds (asks.Question (question.Changes first second None)) = refl
 asked_kinds (asks.Question (question.Changes first second (Some path))) = refl
+asked_kinds (asks.Question (question.Expiring moment)) = refl
 
 spelled_kinds : (words : List (List ℕ)) (asked : Line) → SpellsValues words (line_parts asked).1 → value_kinds (line_parts asked).1 ≡ kinds_behind (line_parts asked).0 words
 spelled_kinds words asked spells = asked_kinds asked ∙ ap (λ n. kinds_if (line_parts asked).0 (n == length (kinds_of (line_parts asked).0))) (sym (as_many words (line_parts asked).1 spells ∙ length_kinds (line_parts asked).1)) where

@@ -2,7 +2,7 @@
 use Rattle.std.specs.Prelude.{◌≡◌, ℕ, Bool, false, ◌≤◌, List, [], ◌∷◌, ◌++◌, length, true, Some, None}
 use Rattle.ele_model.specs.declared.event.Event.{Event}
 use Rattle.ele_commands.specs.declared.command.Command.{Command}
-use Rattle.ele_commands.specs.declared.command.Command.TheVariants.{Ahead, Answers, Changes, Gone, Handles, Pass, History, Removals, Story, Trim, Why}
+use Rattle.ele_commands.specs.declared.command.Command.TheVariants.{Ahead, Answers, Changes, Expiring, Gone, Handles, Pass, History, Removals, Story, Trim, Why}
 use Rattle.ele_script.specs.declared.reading.Line.{Line}
 use Rattle.ele_script.specs.declared.reading.Line.TheVariants as asks
 use Rattle.ele_script.specs.declared.reading.Question.{Question}
@@ -23,6 +23,7 @@ question_parts (question.Story path) = (Story, Path path ∷ [])
 question_parts question.Removals = (Removals, [])
 question_parts (question.Changes first second None) = (Changes, Moment first ∷ Moment second ∷ [])
 question_parts (question.Changes first second (Some path)) = (Changes, Moment first ∷ Moment second ∷ Path path ∷ [])
+question_parts (question.Expiring moment) = (Expiring, Moment moment ∷ [])
 
 -- the command of what a line asks for, and the values of the words after it
 abbrev pub line_parts : Line → Command × List Value

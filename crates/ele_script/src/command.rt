@@ -24,6 +24,7 @@ fn first_row(letter: u8) -> usize
         b'a' => Command::Ahead as usize,
         b'c' => Command::Clock as usize,
         b'd' => Command::Due as usize,
+        b'e' => Command::Expiring as usize,
         b'g' => Command::GroupMake as usize,
         b'h' => Command::History as usize,
         b'l' => Command::Link as usize,

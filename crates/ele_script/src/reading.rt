@@ -58,6 +58,8 @@ pub enum Question {
     Removals,
     /// What changed between two moments, at this path and below it if there is one.
     Changes(Moment, Moment, Option<Path>),
+    /// Which versions will be due at this moment, with the last names of their files.
+    Expiring(Moment),
 }
 
 /// The maximum number of bytes of a line, without its line feed.
@@ -303,6 +305,7 @@ fn line_behind_any(alloc: Global, command: Command, words: &[&[u8]]) -> Result<L
         Command::Story => path(alloc, words).map(|path| Line::Question(Question::Story(path))),
         Command::Removals => nothing(words).and(Ok(Line::Question(Question::Removals))),
         Command::Changes => changes(alloc, words),
+        Command::Expiring => moment(words).map(|moment| Line::Question(Question::Expiring(moment))),
     }
 }
 

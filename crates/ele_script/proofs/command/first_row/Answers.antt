@@ -15,6 +15,10 @@ pub returns-in-100-clause-finds : goal.returns-in-100-clause-finds
 unfolding command_of
 returns-in-100-clause-finds c = λ word words. rw c.in-100.is refl
 
+pub returns-in-101-clause-finds : goal.returns-in-101-clause-finds
+unfolding command_of
+returns-in-101-clause-finds c = λ word words. rw c.in-101.is refl
+
 pub returns-in-103-clause-finds : goal.returns-in-103-clause-finds
 unfolding command_of
 returns-in-103-clause-finds c = λ word words. rw c.in-103.is refl
@@ -69,4 +73,4 @@ returns-in-119-clause-finds c = λ word words. rw c.in-119.is refl
 
 pub returns-in_default-clause-finds : goal.returns-in_default-clause-finds
 returns-in_default-clause-finds c =
-    none_begin c.args.letter (omega arith) (omega arith) (omega arith) (omega arith) (omega arith) (omega arith) (omega arith) (omega arith) (omega arith) (omega arith) (omega arith) (omega arith) (omega arith) (omega arith) (omega arith) (omega arith)
+    none_begin c.args.letter (omega arith) (omega arith) (omega arith) (omega arith) (omega arith) (omega arith) (omega arith) (omega arith) (omega arith) (omega arith) (omega arith) (omega arith) (omega arith) (omega arith) (omega arith) (omega arith) (omega arith)
