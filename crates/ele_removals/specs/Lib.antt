@@ -1,2 +1,4 @@
 pub mod Removals
 pub mod RemovalText
+pub mod Expiring
+pub mod ExpiringText

@@ -58,8 +58,8 @@ fn version_number(row: &Removal) -> u64
     row.version.number.0
 }
 
-// Prints a space and the path of a name, and a space and its end, with `-` for none.
-fn put_name<W: Write>(name: &Option<NameStory>, printer: &mut Printer<'_, W>)
+/// Prints a space and the path of a name, and a space and its end, with `-` for none.
+pub(crate) fn put_name<W: Write>(name: &Option<NameStory>, printer: &mut Printer<'_, W>)
     ensures { Prints W.contents printer.old printer.new
         ((32 ∷ path_or_dash (name_path name.now)) ++ (32 ∷ end_word (name_death name.now))) }
 {
