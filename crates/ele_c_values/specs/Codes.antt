@@ -21,7 +21,7 @@ use Rattle.ele_model.specs.declared.reply.Reply.{Reply}
 use Rattle.ele_model.specs.declared.reply.Reply.TheVariants.{Now, Directory, File, Handle, Version, Closed, Bytes, Rows, NameList, RestoreList, DueList, UsageList, GroupList, Refused}
 use Rattle.ele_printer.specs.LineFault.{fault_number}
 use Rattle.ele_runs.specs.declared.said.Said.{Said}
-use Rattle.ele_runs.specs.declared.said.Said.TheVariants.{Bad, Stopped, Passed, Trimmed, Why, Ahead, Gone, Handles, Story, Removals, Changes}
+use Rattle.ele_runs.specs.declared.said.Said.TheVariants.{Bad, Stopped, Passed, Trimmed, Why, Ahead, Gone, Handles, Story, Removals, Changes, Expiring}
 
 -- neither a moment nor a level
 abbrev pub never : ℕ
@@ -40,6 +40,7 @@ said_code (Why (Err refusal)) reply = refusal_number refusal
 said_code (Ahead (Err refusal)) reply = refusal_number refusal
 said_code (Story (Err refusal)) reply = refusal_number refusal
 said_code (Changes (Err refusal)) reply = refusal_number refusal
+said_code (Expiring (Err refusal)) reply = refusal_number refusal
 said_code said reply = reply_code reply
 
 abbrev pub code_of : Embedding → ℕ
@@ -97,6 +98,7 @@ said_number (Handles handles) reply = length handles.items
 said_number (Story (Ok story)) reply = length story.versions.items + length story.names.items
 said_number (Removals rows) reply = length rows.items
 said_number (Changes (Ok found)) reply = length found.rows.items
+said_number (Expiring (Ok found)) reply = length found.rows.items
 said_number said reply = reply_number reply
 
 abbrev pub number_of : Embedding → ℕ

@@ -65,6 +65,7 @@ pub fn code_of(store: &Store) -> i32
         Said::Ahead(Err(refusal)) => refusal.number() as i32,
         Said::Story(Err(refusal)) => refusal.number() as i32,
         Said::Changes(Err(refusal)) => refusal.number() as i32,
+        Said::Expiring(Err(refusal)) => refusal.number() as i32,
         _ => reply_code(store.reply()),
     }
 }
@@ -145,6 +146,7 @@ pub fn number_of(store: &Store) -> u64
         Said::Story(Ok(story)) => story.versions.len() as u64 + story.names.len() as u64,
         Said::Removals(rows) => rows.len() as u64,
         Said::Changes(Ok(found)) => found.rows.len() as u64,
+        Said::Expiring(Ok(found)) => found.rows.len() as u64,
         _ => reply_number(store.reply()),
     }
 }

@@ -54,6 +54,8 @@ good_outcome last (said.Story (Ok story)) good = λ bad. absurd cc
 good_outcome last (said.Story (Err why)) good = λ bad. absurd cc
 good_outcome last (said.Changes (Ok found)) good = λ bad. absurd cc
 good_outcome last (said.Changes (Err why)) good = λ bad. absurd cc
+good_outcome last (said.Expiring (Ok found)) good = λ bad. absurd cc
+good_outcome last (said.Expiring (Err why)) good = λ bad. absurd cc
 good_outcome last told good = λ bad. absurd cc
 
 -- or the line isn't bad

@@ -46,5 +46,7 @@ answer_outcome last folded entries (said.Story (Ok story)) text is = rw is refl
 answer_outcome last folded entries (said.Story (Err why)) text is = rw is refl
 answer_outcome last folded entries (said.Changes (Ok found)) text is = rw is refl
 answer_outcome last folded entries (said.Changes (Err why)) text is = rw is refl
+answer_outcome last folded entries (said.Expiring (Ok found)) text is = rw is refl
+answer_outcome last folded entries (said.Expiring (Err why)) text is = rw is refl
 answer_outcome last folded entries said.Answers text is = rw is.2 refl
 answer_outcome last folded entries told text is = rw is refl

@@ -10,9 +10,9 @@ use Rattle.ele_model.specs.declared.refusal.Stop.TheVariants.{NoMemory, HistoryF
 use Rattle.ele_model.specs.declared.reply.Reply.{Reply}
 use Rattle.ele_path.specs.declared.tagged.TaggedPath.{TaggedPath}
 use Rattle.ele_runs.specs.Kept.{Plain, Recorded}
-use Rattle.ele_runs.specs.Said.{Explains, Records, SaysAhead, SaysChanges, SaysFate}
+use Rattle.ele_runs.specs.Said.{Explains, Records, SaysAhead, SaysChanges, SaysExpiring, SaysFate}
 use Rattle.ele_runs.specs.declared.said.Said.{Said}
-use Rattle.ele_runs.specs.declared.said.Said.TheVariants.{Ahead, Changes, Stopped, Why, WhyHeld}
+use Rattle.ele_runs.specs.declared.said.Said.TheVariants.{Ahead, Changes, Expiring, Stopped, Why, WhyHeld}
 use Rattle.ele_script.specs.declared.reading.Question.TheVariants as question
 
 -- a history stopped the event
@@ -43,6 +43,18 @@ pub changes_alone : (w : World) (last : Option Reply) (first second : ℕ) (with
 changes_alone w last first second within (Changes told) says = says
 changes_alone w last first second within (Stopped stop) says = (says, tt)
 changes_alone w last first second within said says = absurd says
+
+-- what will be due, with names, over a history
+pub expiring_recorded : (past : Past) (moment : ℕ) (said : Said) → SaysExpiring (world_of past) moment said → Explains (Recorded past) (question.Expiring moment) said
+expiring_recorded past moment (Expiring told) says = says
+expiring_recorded past moment (Stopped stop) says = says
+expiring_recorded past moment said says = absurd says
+
+-- and over a core alone
+pub expiring_alone : (w : World) (last : Option Reply) (moment : ℕ) (said : Said) → SaysExpiring w moment said → Explains (Plain w last) (question.Expiring moment) said
+expiring_alone w last moment (Expiring told) says = says
+expiring_alone w last moment (Stopped stop) says = says
+expiring_alone w last moment said says = absurd says
 
 -- the fate of a version, over a history
 pub fate_recorded : (past : Past) (tagged : TaggedPath) (said : Said) → SaysFate (world_of past) tagged said → Explains (Recorded past) (question.Why tagged) said

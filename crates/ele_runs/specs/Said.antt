@@ -29,13 +29,15 @@ use Rattle.ele_printer.specs.Printed.{IsReplyText, bad_text, pass_text, stop_tex
 use Rattle.ele_printer.specs.Why.{ahead_text, why_text}
 use Rattle.ele_printer.specs.declared.fault.LineFault.{LineFault}
 use Rattle.ele_printer.specs.declared.fault.LineFault.TheVariants.{Syntax, LineTooLong}
+use Rattle.ele_removals.specs.Expiring.{IsExpiring}
+use Rattle.ele_removals.specs.ExpiringText.{expiring_text}
 use Rattle.ele_removals.specs.RemovalText.{removals_text}
 use Rattle.ele_removals.specs.Removals.{AreTold}
 use Rattle.ele_run_options.specs.RunOptions.{front_of, heard}
 use Rattle.ele_run_options.specs.declared.options.RunOptions.{RunOptions}
 use Rattle.ele_runs.specs.Kept.{Kept, Plain, Recorded, Journaled, Answered, Folds, HasEntries, Passes, Stays, StopsEvent, bare, has_past, world_in}
 use Rattle.ele_runs.specs.declared.said.Said.{Said}
-use Rattle.ele_runs.specs.declared.said.Said.TheVariants.{Nothing, Bad, Stopped, Replied, Passed, History, Trimmed, Why, WhyHeld, WhyRemoved, Ahead, Gone, Handles, Answers, Story, Removals, Changes}
+use Rattle.ele_runs.specs.declared.said.Said.TheVariants.{Nothing, Bad, Stopped, Replied, Passed, History, Trimmed, Why, WhyHeld, WhyRemoved, Ahead, Gone, Handles, Answers, Story, Removals, Changes, Expiring}
 use Rattle.ele_script.specs.FirstFault.{IsFirstFault}
 use Rattle.ele_script.specs.Memory.{TakesMemory}
 use Rattle.ele_script.specs.Spells.{Asks}
@@ -77,7 +79,7 @@ abbrev pub span_of : (first second : ℕ) → Span
 span_of first second = record { first = first; second = second }
 
 -- a question may take memory. With a history: `why` if a stored entry removed a version with that number, `gone` and `removals` after a removal,
--- `handles` while one is open. With one or without: `why` of a version that is due, `ahead`, and any `story` or `changes`
+-- `handles` while one is open. With one or without: `why` of a version that is due, `ahead` and `expiring`, and any `story` or `changes`
 abbrev pub MayTake : Kept → Question → Type 0
 MayTake (Recorded past) (question.Why tagged) = MayBeRemoved past tagged.tag ⊎ MeansDue (world_of past) tagged
 MayTake (Plain w last) (question.Why tagged) = MeansDue w tagged
@@ -88,6 +90,7 @@ MayTake (Recorded past) question.Handles = (world_of past).handles ≢ []
 MayTake (Plain w last) (question.Ahead moment) = TakesKeys w moment
 MayTake kept (question.Story path) = Unit {0}
 MayTake kept (question.Changes first second within) = Unit {0}
+MayTake kept (question.Expiring moment) = TakesKeys (world_in kept) moment
 MayTake kept asked = ⊥
 
 -- the answer to a question; a core alone answers only some
@@ -104,6 +107,7 @@ Says (Story told) (Recorded past) (question.Story path) = IsStory (removals past
 Says (Story told) (Plain w last) (question.Story path) = IsStory [] w path told
 Says (Removals rows) (Recorded past) question.Removals = AreTold past rows.items
 Says (Changes told) kept (question.Changes first second within) = IsDifference (world_in kept) (span_of first second) within told
+Says (Expiring told) kept (question.Expiring moment) = IsExpiring (world_in kept) moment told
 Says said kept asked = ⊥
 
 -- a question that only a history answers
@@ -112,6 +116,7 @@ IsOfPast (question.Why tagged) = ⊥
 IsOfPast (question.Ahead moment) = ⊥
 IsOfPast (question.Story path) = ⊥
 IsOfPast (question.Changes first second within) = ⊥
+IsOfPast (question.Expiring moment) = ⊥
 IsOfPast asked = Unit {0}
 
 -- ---- lines
@@ -192,6 +197,7 @@ IsText last folded entries Answers text = IsAnswersText folded entries text
 IsText last folded entries (Story told) text = text ≡ story_text told
 IsText last folded entries (Removals rows) text = text ≡ removals_text folded rows.items
 IsText last folded entries (Changes told) text = text ≡ changes_text told
+IsText last folded entries (Expiring told) text = text ≡ expiring_text told
 
 -- the bytes before the answer
 abbrev pub said_front : RunOptions → ℕ → Said → List ℕ
@@ -247,3 +253,9 @@ abbrev pub SaysChanges : World → (first second : ℕ) → Option (List (List �
 SaysChanges w first second within (Changes told) = IsDifference w (span_of first second) within told
 SaysChanges w first second within (Stopped stop) = stop ≡ NoMemory
 SaysChanges w first second within said = ⊥
+
+-- the versions that will be due at a moment, with names; memory may stop that as it may stop `ahead`
+abbrev pub SaysExpiring : World → ℕ → Said → Type 0
+SaysExpiring w moment (Expiring told) = IsExpiring w moment told
+SaysExpiring w moment (Stopped stop) = (stop ≡ NoMemory) × TakesKeys w moment
+SaysExpiring w moment said = ⊥

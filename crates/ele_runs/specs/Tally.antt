@@ -33,6 +33,7 @@ outcome_for last (said.Why (Err why)) = Refused
 outcome_for last (said.Ahead (Err why)) = Refused
 outcome_for last (said.Story (Err why)) = Refused
 outcome_for last (said.Changes (Err why)) = Refused
+outcome_for last (said.Expiring (Err why)) = Refused
 outcome_for last told = Well
 
 abbrev pub is_well : Outcome → Bool

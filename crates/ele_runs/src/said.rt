@@ -7,7 +7,7 @@ ghost use Rattle.ele_model.specs.Why.{IsWhy, MeansFate};
 ghost use Rattle.ele_model.specs.declared.refusal.Refusal.TheVariants.{Forgotten};
 ghost use Rattle.ele_output.specs.Prints.{Prints};
 ghost use Rattle.ele_runs.specs.Kept.{Plain, Recorded, last_reply};
-ghost use Rattle.ele_runs.specs.Said.{Explains, HearsKept, IsLastText, IsText, MayMean, Records, SaysAhead, SaysChanges, SaysFate, has_no_reply, said_front};
+ghost use Rattle.ele_runs.specs.Said.{Explains, HearsKept, IsLastText, IsText, MayMean, Records, SaysAhead, SaysChanges, SaysExpiring, SaysFate, has_no_reply, said_front};
 ghost use Rattle.ele_runs.specs.Tally.{outcome_for};
 ghost use Rattle.ele_runs.specs.Written.{AsksEventIn, IsEventText, event_said, number_front};
 ghost use Rattle.ele_script.specs.declared.reading.Question.TheVariants as question;
@@ -32,7 +32,7 @@ use ele_printer::{
     put_ahead, put_answer, put_fault, put_history, put_in_front, put_pass, put_stop, put_trimmed,
     put_why,
 };
-use ele_removals::{Removal, put_removals, removals};
+use ele_removals::{Expiries, Removal, expiring, put_expiring, put_removals, removals};
 use ele_run_options::RunOptions;
 use ele_script::{Line, LineFault, Question, read_line_in};
 use std::alloc::Global;
@@ -76,6 +76,8 @@ pub enum Said {
     Removals(Vec<Removal>),
     /// What changed between the moments that it asks about, or why these are refused.
     Changes(Result<Difference, Refusal>),
+    /// What will be due at the moment that it asks about, with the last names of the files.
+    Expiring(Result<Expiries, Refusal>),
 }
 
 /// Answers a line as it is kept, over whatever keeps the world.
@@ -202,7 +204,7 @@ pub(crate) fn put_number_front<W: Write>(
 /// Answers a question about a history.
 // Not inlined, so that only questions take the stack of their answers.
 #[inline(never)]
-#[tactic(auto, using(crate::proofs::Questions::ahead_recorded, crate::proofs::Questions::changes_recorded))]
+#[tactic(auto, using(crate::proofs::Questions::ahead_recorded, crate::proofs::Questions::changes_recorded, crate::proofs::Questions::expiring_recorded))]
 pub(crate) fn explain<C: Explain + FromFlat>(
     alloc: Global,
     question: &Question,
@@ -230,11 +232,12 @@ pub(crate) fn explain<C: Explain + FromFlat>(
         Question::Changes(first, second, within) => {
             explain_changes(*first, *second, within, history.core())
         }
+        Question::Expiring(moment) => explain_expiring(*moment, history.core()),
     }
 }
 
 /// Answers a question about a core alone.
-#[tactic(auto, using(crate::proofs::Questions::ahead_alone, crate::proofs::Questions::changes_alone))]
+#[tactic(auto, using(crate::proofs::Questions::ahead_alone, crate::proofs::Questions::changes_alone, crate::proofs::Questions::expiring_alone))]
 pub fn explain_alone<C: Explain>(question: &Question, core: &C) -> Said
     ensures { Explains (Plain (C.world core.now) None) question.now result }
 {
@@ -243,6 +246,7 @@ pub fn explain_alone<C: Explain>(question: &Question, core: &C) -> Said
         Question::Ahead(moment) => explain_ahead(*moment, core),
         Question::Story(path) => explain_story_alone(path, core),
         Question::Changes(first, second, within) => explain_changes(*first, *second, within, core),
+        Question::Expiring(moment) => explain_expiring(*moment, core),
         Question::Gone | Question::Handles | Question::Answers | Question::Removals => {
             Said::Bad(LineFault::Syntax)
         }
@@ -356,6 +360,16 @@ fn explain_ahead<C: Explain>(moment: Moment, core: &C) -> Said
     }
 }
 
+// Returns what will be due at the moment, with names. It takes no memory if nothing is due by then.
+fn explain_expiring<C: Explain>(moment: Moment, core: &C) -> Said
+    ensures { SaysExpiring (C.world core.now) moment result }
+{
+    match expiring(moment, core) {
+        Ok(told) => Said::Expiring(told),
+        Err(_) => Said::Stopped(Stop::NoMemory),
+    }
+}
+
 impl Said {
     /// By which word it is told, with the last reply that is kept.
     pub(crate) fn outcome(&self, last: Option<&Reply>) -> Outcome
@@ -364,8 +378,8 @@ impl Said {
         match self {
             Said::Bad(_) => Outcome::Bad,
             Said::Stopped(_) | Said::Passed(PassEnd::Stopped(_, _)) => Outcome::Stopped,
-            Said::Why(Err(_)) | Said::Ahead(Err(_)) | Said::Story(Err(_)) | Said::Changes(Err(_)) =>
-                { Outcome::Refused }
+            Said::Why(Err(_)) | Said::Ahead(Err(_)) | Said::Story(Err(_)) => Outcome::Refused,
+            Said::Changes(Err(_)) | Said::Expiring(Err(_)) => Outcome::Refused,
             Said::Replied => event_outcome(None, last),
             _ => Outcome::Well,
         }
@@ -416,6 +430,7 @@ impl Said {
             Said::Story(told) => put_story(told, printer),
             Said::Removals(rows) => put_removals(folded, rows.as_slice(), printer),
             Said::Changes(told) => put_changes(told, printer),
+            Said::Expiring(told) => put_expiring(told, printer),
         }
     }
 }
