@@ -461,7 +461,7 @@ enum elephant_fate {
     ELEPHANT_IS_OPEN = 1,      /* a handle reads it */
     ELEPHANT_IS_MARKED = 2,    /* moment and until are the mark's; elephant_why_group returns the group's name */
     ELEPHANT_IS_KEPT = 3,      /* its policy keeps it: until, and level */
-    ELEPHANT_IS_DUE = 4        /* since moment, for cause */
+    ELEPHANT_IS_DUE = 4        /* since moment, for cause; elephant_why_hold returns the mark that held it until then */
 };
 
 enum elephant_cause {
@@ -480,11 +480,17 @@ typedef struct elephant_why_row {
     uint64_t by;               /* of DISPLACED, else 0 */
 } elephant_why_row;
 
-/* Returns why the version is held, or due. It is no event. NO_ENTRY, NOT_DIRECTORY, IS_DIRECTORY, FUTURE, NO_VERSION, FORGOTTEN;
- * BAD_PATH, BAD_NAME, BAD_MOMENT, SYNTAX. */
+/* Returns why the version is held, or due. It is no event. If a mark ended at the moment since which the version is due, the call copies
+ * the whole store to see whether the mark held the version, and takes that much time and memory. NO_ENTRY, NOT_DIRECTORY, IS_DIRECTORY,
+ * FUTURE, NO_VERSION, FORGOTTEN; BAD_PATH, BAD_NAME, BAD_MOMENT, SYNTAX. */
 int32_t elephant_why(elephant *e, const void *path, size_t len, uint32_t tag, uint64_t number, elephant_why_row *row);
 
-/* Copies the name of the group of the last elephant_why, if its fate was MARKED. *length: how many bytes. NO_RESULT, NO_ROOM. */
+/* Returns the mark that held the version of the last elephant_why after its policy had let it go. Its `until` is the moment since which the
+ * version is due. NO_RESULT: the fate wasn't DUE, or no mark held the version. */
+int32_t elephant_why_hold(const elephant *e, elephant_mark_row *mark);
+
+/* Copies the name of the group of the last elephant_why: that of the mark, if the fate was MARKED, or that of the mark of
+ * elephant_why_hold. *length: how many bytes. NO_RESULT: there is no such mark; NO_ROOM. */
 int32_t elephant_why_group(const elephant *e, void *into, size_t room, uint64_t *length);
 
 /* Removes the first due version, and returns its key; removed->file is 0 if none was due. */

@@ -23,7 +23,7 @@ DIRECT = (
     "file_across", "version_across", "journal_begin", "journal_open", "journal_pending", "journal_written", "journal_compact",
 )
 # The calls that only look at the handle.
-LOOKS = re.compile(r"now|detail|counts|answer|take|read_into|read_handle_into|rung|row_\w+|why_group|history|\w+_across")
+LOOKS = re.compile(r"now|detail|counts|answer|take|read_into|read_handle_into|rung|row_\w+|why_\w+|history|\w+_across")
 
 
 class Asked(NamedTuple):
@@ -59,6 +59,7 @@ KEPT = {
     "row_name": Asked("number out", kind="Name"), "row_key": Asked("number out", kind="Key"),
     "row_usage": Asked("number out", kind="Usage"), "row_group": Asked("number out", kind="Group"),
     "row_member": Asked("number number out", kind="Member"), "row_mark": Asked("number number out", kind="Mark"),
+    "why_hold": Asked("out", kind="Hold"),
 }
 # Calls that ask or do something else first: the C of that.
 FIRST = {

@@ -17,7 +17,7 @@ enum { CALL_CLOCK, CALL_TICK, CALL_MAKE_DIR, CALL_REMOVE_DIR, CALL_CREATE, CALL_
        CALL_READ_HANDLE, CALL_STAT, CALL_VERSIONS, CALL_LIST_NAMES, CALL_RESTORABLE, CALL_DUE, CALL_USAGE_ALL, CALL_GROUPS_ALL,
        CALL_SAVE, CALL_ABANDON, CALL_RESTORE, CALL_NOTE };
 enum { KIND_NOW, KIND_DETAIL, KIND_HISTORY, KIND_PASS, KIND_WHY, KIND_KEY, KIND_REMOVED, KIND_VERSION, KIND_NAME, KIND_USAGE,
-       KIND_GROUP, KIND_MEMBER, KIND_MARK, KIND_STAT, KIND_RUNG, KIND_COUNTS };
+       KIND_GROUP, KIND_MEMBER, KIND_MARK, KIND_STAT, KIND_RUNG, KIND_COUNTS, KIND_HOLD };
 enum { BYTES_CONTENT, BYTES_TEXT, BYTES_NAME, BYTES_GROUP };
 
 int32_t inner_numbers(const elephant *e, uint32_t kind, uint64_t index, uint64_t inner, inner_row *into);
@@ -388,6 +388,15 @@ int32_t elephant_why(elephant *e, const void *path, size_t len, uint32_t tag, ui
     int32_t code = inner_why(e, path, len, tag, number);
     if (!code && !inner_numbers(e, KIND_WHY, 0, 0, &kept)) {
         *row = (elephant_why_row){kept.at[0], kept.at[1], kept.at[2], kept.at[3], kept.at[4], kept.at[5], kept.at[6]};
+    }
+    return code;
+}
+
+int32_t elephant_why_hold(const elephant *e, elephant_mark_row *mark) {
+    inner_row kept;
+    int32_t code = inner_numbers(e, KIND_HOLD, 0, 0, &kept);
+    if (!code) {
+        *mark = (elephant_mark_row){kept.at[0], kept.at[1]};
     }
     return code;
 }

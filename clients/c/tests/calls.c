@@ -139,6 +139,7 @@ static void a_closed_handle_answers(void) {
     CODE(closed, elephant_row_member(e, 0, 0, &a));
     CODE(closed, elephant_row_mark(e, 0, 0, &mark));
     CODE(closed, elephant_why(e, TEXT("/f"), ELEPHANT_NOW, 0, &why));
+    CODE(closed, elephant_why_hold(e, &mark));
     CODE(closed, elephant_why_group(e, into, sizeof into, &a));
     CODE(closed, elephant_clean(e, &key));
     CODE(closed, elephant_pass(e, 1, &a, &b));
@@ -835,6 +836,57 @@ static void a_mark_keeps_what_was_current(void) {
     elephant_delete(e);
 }
 
+/* Asks for the mark that held the version of the last elephant_why, and finds none. */
+static void want_no_hold(const elephant *e) {
+    elephant_mark_row mark = {.moment = 7, .until = 8};
+    CODE(ELEPHANT_NO_RESULT, elephant_why_hold(e, &mark));
+    WANT(mark.moment == 7 && mark.until == 8);
+}
+
+static void the_mark_that_held_a_version_is_told(void) {
+    elephant *e = with_file(0);
+    elephant_mark_row mark;
+    elephant_why_row why;
+    uint64_t length = 7, copied;
+    char text[64];
+    want_no_hold(e);
+    OK(elephant_group_make(e, TEXT("release")));
+    OK(elephant_group_add(e, TEXT("release"), TEXT("/f")));
+    OK(elephant_mark(e, TEXT("release"), 6, 99));
+    OK(elephant_policy(e, TEXT("/f"), TEXT("safe:5")));
+    OK(elephant_why(e, TEXT("/f"), ELEPHANT_VERSION, 2, &why));
+    WANT(why.fate == ELEPHANT_IS_MARKED && why.moment == 6 && why.until == 99);
+    want_no_hold(e);
+    OK(elephant_clock(e, 120));
+    OK(elephant_why(e, TEXT("/f"), ELEPHANT_VERSION, 2, &why));
+    WANT(why.fate == ELEPHANT_IS_DUE && why.moment == 99 && why.cause == ELEPHANT_BY_AGE && why.seconds == 5);
+    OK(elephant_why_hold(e, &mark));
+    WANT(mark.moment == 6 && mark.until == 99);
+    CODE(ELEPHANT_NO_ROOM, elephant_why_group(e, text, 6, &length));
+    OK(elephant_why_group(e, text, sizeof text, &length));
+    WANT(length == 7 && !memcmp(text, "release", 7));
+    OK(elephant_tell(e, &length));
+    OK(elephant_answer(e, 0, text, sizeof text, &copied));
+    WANT(copied == 41 && !memcmp(text, "ok why held release 6/99 due 99 by age 5\n", 41));
+    /* No mark was made while version 1 was current. */
+    OK(elephant_why(e, TEXT("/f"), ELEPHANT_VERSION, 1, &why));
+    WANT(why.fate == ELEPHANT_IS_DUE && why.moment == 5);
+    want_no_hold(e);
+    CODE(ELEPHANT_NO_RESULT, elephant_why_group(e, text, sizeof text, &length));
+    /* The handle keeps the answer to a line too. */
+    OK(elephant_line(e, TEXT("why /f#2"), &length));
+    OK(elephant_why_hold(e, &mark));
+    WANT(mark.moment == 6 && mark.until == 99);
+    /* The policy held it as long as the mark. */
+    OK(elephant_policy(e, TEXT("/f"), TEXT("safe:89")));
+    OK(elephant_why(e, TEXT("/f"), ELEPHANT_VERSION, 2, &why));
+    WANT(why.fate == ELEPHANT_IS_DUE && why.moment == 99 && why.seconds == 89);
+    want_no_hold(e);
+    OK(elephant_due(e, &length));
+    want_no_hold(e);
+    elephant_delete(e);
+}
+
 /* The limit that was reached, from the detail. */
 #define FULL_OF(e, limit, call)                            \
     do {                                                   \
@@ -1085,6 +1137,7 @@ int main(void) {
     versions_become_due_and_are_removed();
     a_ladder_tells_what_displaced_a_version();
     a_mark_keeps_what_was_current();
+    the_mark_that_held_a_version_is_told();
     each_limit_is_told_by_its_number();
     what_the_limits_count_is_told();
     a_history_is_kept_and_folded();

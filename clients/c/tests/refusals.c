@@ -55,6 +55,7 @@ static const char *const questions[] = {
     "versions /f",  "versions /d/a", "stat /f",  "stat /d/a",   "read /f",    "read /d/a",  "read /f#1",     "read /f#2",  "read /f#3",
     "read /d/a#1",  "read /d/a#2", "read 1",     "read 2",      "read 3",     "read 4",     "why /f#1",      "why /f#2",   "versions /new",
     "read /new",    "list /new",   "list /@1",   "versions /f@1", "story /f", "story /d/a", "story /new",
+    "why /h#2",
 };
 
 static void tell_all(struct told *told, elephant *e) {
@@ -143,6 +144,7 @@ ATTEMPT(mark_until, elephant_mark(e, TEXT("g"), 21, 500))
 ATTEMPT(unmark, elephant_unmark(e, TEXT("g"), 5))
 ATTEMPT(groups, elephant_groups(e, &out.number))
 ATTEMPT(why, elephant_why(e, TEXT("/f"), ELEPHANT_VERSION, 2, &out.why))
+ATTEMPT(why_held, elephant_why(e, TEXT("/h"), ELEPHANT_VERSION, 2, &out.why))
 ATTEMPT(clean, elephant_clean(e, &out.key))
 ATTEMPT(checkpoint, elephant_checkpoint(e, &out.number))
 ATTEMPT(directory_across, elephant_directory_across(e, 2, &out.number))
@@ -165,6 +167,7 @@ static const struct attempt attempts[] = {
     NAMED(why),            NAMED(clean),         NAMED(read_into),     NAMED(read_handle_into), NAMED(abandon),   NAMED(save_over),
     NAMED(save_large),     NAMED(save_none),     NAMED(save_new),      NAMED(restore_own),   NAMED(restore_dead), NAMED(restore_left),
     NAMED(checkpoint),     NAMED(directory_across), NAMED(file_across), NAMED(version_across), NAMED(note),
+    NAMED(why_held),
 };
 
 /* Those of a store without a journal, and of one with a journal. */
@@ -186,7 +189,13 @@ static elephant *ready(uint32_t history) {
     save(e, "/d/a", large, 5000);
     OK(elephant_create(e, TEXT("/dead"), &number));
     OK(elephant_link(e, TEXT("/f"), TEXT("/left")));
+    OK(elephant_save(e, TEXT("/h"), TEXT("first"), &number));
     OK(elephant_tick(e, 10));
+    OK(elephant_save(e, TEXT("/h"), TEXT("second"), &number));
+    OK(elephant_policy(e, TEXT("/h"), TEXT("one")));
+    OK(elephant_group_make(e, TEXT("k")));
+    OK(elephant_group_add(e, TEXT("k"), TEXT("/h")));
+    OK(elephant_mark(e, TEXT("k"), 5, 30));
     OK(elephant_unlink(e, TEXT("/dead")));
     OK(elephant_unlink(e, TEXT("/left")));
     OK(elephant_group_make(e, TEXT("g")));

@@ -99,6 +99,7 @@ class Rows(unittest.TestCase):
         for fate, word, cause in (
             (Due(at(5)), "due 5 at once", Cause.AT_ONCE), (Due(at(5), age=7), "due 5 by age 7", Cause.BY_AGE),
             (Due(at(5), by=8, level=1), "due 5 by 8 level 1", Cause.DISPLACED),
+            (Due(at(18), held=Marked("g", at(2), at(18))), "held g 2/18 due 18 at once", Cause.AT_ONCE),
         ):
             self.assertEqual((str(fate), fate.cause), (word, cause))
         for words in ("due 18 at once", "due 18 by age 7", "due 18 by 8 level 1", "held g 2/18 due 18 at once"):

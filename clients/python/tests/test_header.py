@@ -38,7 +38,9 @@ class Header(unittest.TestCase):
     def test_fates_and_causes(self) -> None:
         def fate(name: str, cause: int = 0) -> object:
             row = types.SimpleNamespace(moment=5, until=_moments.NEVER, level=1, cause=cause, seconds=7, by=8)
-            return _questions._FATES[self.number(name)](mock.Mock(spec=Core), row)
+            core = mock.Mock(spec=Core, library=mock.Mock())
+            core.row_found.return_value = None
+            return _questions._FATES[self.number(name)](core, row)
 
         self.assertEqual((fate("IS_CURRENT"), fate("IS_OPEN"), fate("IS_KEPT")), (Current(), Open(), Kept(None, 1)))
         self.assertIs(_questions._FATES[self.number("IS_MARKED")], _questions._marked)

@@ -568,6 +568,26 @@ class Policies(unittest.TestCase):
             store.group_drop("my release")
             self.assertEqual(store.groups(), [])
 
+    def test_the_mark_that_held_a_version(self) -> None:
+        with manual() as store:
+            store.set_default("/", KeepSafe(seconds=5))
+            store.save("/f", b"one")
+            store.clock(10)
+            store.save("/f", b"two")
+            store.group_make("my release")
+            store.group_add("my release", "/f")
+            store.mark("my release", 6, 99)
+            held = Marked("my release", Moment(6), Moment(99))
+            self.assertEqual(store.why("/f", version=2), held)
+            store.clock(120)
+            fate = store.why("/f", version=2)
+            self.assertEqual((fate, str(fate)), (Due(Moment(99), age=5, held=held), "held my release 6/99 due 99 by age 5"))
+            # No mark was made while version 1 was current.
+            self.assertEqual(store.why("/f", version=1), Due(Moment(5), age=5))
+            # Keep Safe holds version 2 as long as the mark.
+            store.set_policy("/f", KeepSafe(seconds=89))
+            self.assertEqual(store.why("/f", version=2), Due(Moment(99), age=89))
+
 
 class Limited(unittest.TestCase):
     def test_what_is_full_is_told(self) -> None:

@@ -70,8 +70,7 @@ def word_of(value: Optional[int]) -> str:
 def version_row(it: VersionStory) -> str:
     known = "- - -" if it.closed is None else f"{it.closed} {word_of(it.ended)} {it.length}"
     removed = "" if it.removed is None else f"removed {it.removed} "
-    held = "" if it.held is None else str(it.held).replace("marked", "held") + " "
-    return f"- version {it.number} {known} {removed}{held}{'-' if it.fate is None else it.fate}"
+    return f"- version {it.number} {known} {removed}{'-' if it.fate is None else it.fate}"
 
 
 def printed(found: Story) -> str:
@@ -83,9 +82,10 @@ def printed(found: Story) -> str:
 
 class Rows(unittest.TestCase):
     def test_each_fate(self) -> None:
+        held = Marked("g", at(2), at(30))
         versions = (
             VersionStory(1, None, None, None, None, at(20)),
-            VersionStory(2, at(5), at(9), 2, Due(at(30), age=3), at(40), Marked("g", at(2), at(30))),
+            VersionStory(2, at(5), at(9), 2, Due(at(30), age=3, held=held), at(40), held),
             VersionStory(3, at(9), at(12), 0, Marked("g", at(9), None)),
             VersionStory(4, at(12), at(13), 1, Open()),
             VersionStory(5, at(13), at(14), 1, Kept(at(60), 1)),
@@ -128,9 +128,10 @@ class Stories(unittest.TestCase):
             store.clean()
             store.rename("/ä", "/b")
             # Version 2 was current at 2, and version 1 only at 0.
+            held = Marked("g", at(2), at(30))
             self.assertEqual(store.story("/ä"), Story(1, (
                 VersionStory(1, at(0), at(0), 0, Due(at(0)), at(5)),
-                VersionStory(2, at(0), at(5), 3, Due(at(30)), at(40), Marked("g", at(2), at(30))),
+                VersionStory(2, at(0), at(5), 3, Due(at(30), held=held), at(40), held),
                 VersionStory(3, at(5), None, 3, Current()),
             ), (NameStory("/ä", at(0), at(40), b"/%C3%A4"), NameStory("/b", at(40), None, b"/b"))))
             self.assertEqual(store.story("/ä").versions[1].fate.cause, Cause.AT_ONCE)  # type: ignore[union-attr]

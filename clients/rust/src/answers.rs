@@ -99,11 +99,8 @@ fn read_version_story(row: &str) -> Result<VersionStory, Error> {
         ["removed", moment, rest @ ..] => (Some(moment_of(moment)?), rest),
         rest => (None, rest),
     };
-    let (held, rest) = held_of(rest)?;
     let fate = fate_of(rest)?;
-    if held.is_some() && !matches!(fate, Some(Fate::Due { .. })) {
-        return Err(OTHER);
-    }
+    let held = if let Some(Fate::Due { held, .. }) = &fate { held.clone() } else { None };
     Ok(VersionStory { number, info, removed, held, fate })
 }
 
@@ -127,9 +124,19 @@ fn fate_of(words: &[&str]) -> Result<Option<Fate>, Error> {
         ["kept", "level", at] => Fate::Kept { until: None, level: level(at)? },
         ["kept", "until", until] => Fate::Kept { until: Some(moment_of(until)?), level: None },
         ["kept", "until", until, "level", at] => Fate::Kept { until: Some(moment_of(until)?), level: level(at)? },
-        ["due", since, cause @ ..] => Fate::Due { since: moment_of(since)?, cause: cause_of(cause)? },
-        _ => return Err(OTHER),
+        words => {
+            let (held, since, cause) = due_of(words)?;
+            Fate::Due { held, since, cause }
+        }
     }))
+}
+
+// The mark that held a version, since when it was due and for what cause, by all of the words.
+fn due_of(words: &[&str]) -> Result<(Option<Hold>, u64, Cause), Error> {
+    match held_of(words)? {
+        (held, ["due", since, cause @ ..]) => Ok((held, moment_of(since)?, cause_of(cause)?)),
+        _ => Err(OTHER),
+    }
 }
 
 fn mark_of(word: &str) -> Result<Mark, Error> {
@@ -250,10 +257,7 @@ impl<'a> Words<'a> {
     // The mark that held a version, since when it was due and for what cause, and nothing after it.
     fn due(&mut self) -> Result<(Option<Hold>, u64, Cause), Error> {
         let rest: Vec<&str> = self.0.by_ref().collect();
-        match held_of(&rest)? {
-            (held, ["due", since, cause @ ..]) => Ok((held, moment_of(since)?, cause_of(cause)?)),
-            _ => Err(OTHER),
-        }
+        due_of(&rest)
     }
 }
 
@@ -447,7 +451,7 @@ mod tests {
         let mark = |at, until| Mark { at, until };
         let group = "g".to_owned();
         let held = Some(Hold { group: group.clone(), mark: mark(2, Some(30)) });
-        let due = Some(Fate::Due { since: 30, cause: Cause::ByAge { seconds: 3 } });
+        let due = Some(Fate::Due { held: held.clone(), since: 30, cause: Cause::ByAge { seconds: 3 } });
         let versions = vec![
             version_story(1, None, Some(20), None),
             VersionStory { held, ..version_story(2, Some((5, Some(9), 2)), Some(40), due) },
@@ -457,7 +461,7 @@ mod tests {
             version_story(6, Some((14, Some(15), 1)), None, Some(Fate::Kept { until: Some(60), level: None })),
             version_story(7, Some((15, Some(16), 1)), None, Some(Fate::Kept { until: None, level: Some(2) })),
             version_story(8, Some((16, Some(17), 1)), None, Some(Fate::Kept { until: None, level: None })),
-            version_story(9, Some((17, Some(18), 1)), None, Some(Fate::Due { since: 18, cause: Cause::AtOnce })),
+            version_story(9, Some((17, Some(18), 1)), None, Some(Fate::Due { held: None, since: 18, cause: Cause::AtOnce })),
             version_story(10, Some((18, None, 1)), None, Some(Fate::Current)),
         ];
         let name = |birth, death, path: Option<&str>| NameStory { birth, death, path: path.map(str::to_owned) };

@@ -108,7 +108,7 @@ impl Store {
     /// [`Error::NoMemory`].
     pub fn directory_across(&self, directory: u64) -> Result<Option<u64>, Error> {
         // SAFETY: see `call`.
-        self.across(|e, fresh| unsafe { sys::elephant_directory_across(e, directory, fresh) })
+        self.found(|e, fresh| unsafe { sys::elephant_directory_across(e, directory, fresh) })
     }
 
     /// Returns the number that a file will have after [`renew`](Store::renew). None if there is no such file.
@@ -117,7 +117,7 @@ impl Store {
     /// [`Error::NoMemory`].
     pub fn file_across(&self, file: u64) -> Result<Option<u64>, Error> {
         // SAFETY: see `call`.
-        self.across(|e, fresh| unsafe { sys::elephant_file_across(e, file, fresh) })
+        self.found(|e, fresh| unsafe { sys::elephant_file_across(e, file, fresh) })
     }
 
     /// Returns the number that a version of a file will have after [`renew`](Store::renew). None if it isn't held.
@@ -126,17 +126,7 @@ impl Store {
     /// [`Error::NoMemory`].
     pub fn version_across(&self, file: u64, version: u64) -> Result<Option<u64>, Error> {
         // SAFETY: see `call`.
-        self.across(|e, fresh| unsafe { sys::elephant_version_across(e, file, version, fresh) })
-    }
-
-    // Makes a call that writes one number, or finds none.
-    fn across(&self, made: impl FnOnce(*mut sys::elephant, &mut u64) -> i32) -> Result<Option<u64>, Error> {
-        let mut fresh = 0;
-        match self.code(|e| made(e, &mut fresh)) {
-            sys::ELEPHANT_OK => Ok(Some(fresh)),
-            sys::ELEPHANT_NO_RESULT => Ok(None),
-            code => Err(Error::from_code(code, || None)),
-        }
+        self.found(|e, fresh| unsafe { sys::elephant_version_across(e, file, version, fresh) })
     }
 
     // Whether a handle is open. It is no event.

@@ -3,8 +3,8 @@
 use crate::store::parts;
 use crate::sys;
 use crate::{
-    Cause, Counts, DeletedName, Entry, Error, Fate, Mark, Node, Policy, Removable, Rung, Stat, Store, Target, Usage, Usages,
-    Version,
+    Cause, Counts, DeletedName, Entry, Error, Fate, Hold, Mark, Node, Policy, Removable, Rung, Stat, Store, Target, Usage,
+    Usages, Version,
 };
 
 // The longest name of a path or a group.
@@ -157,8 +157,9 @@ impl Store {
         Counts::of_row(&row)
     }
 
-    /// Returns why a version is held, or due. In a store with a history it also returns when and why a version was removed, if you ask
-    /// by its number: [`Fate::Removed`].
+    /// Returns why a version is held, or since when it is due and which mark held it until then. In a store with a history it also
+    /// returns when and why a version was removed, if you ask by its number: [`Fate::Removed`]. If a mark ended at the moment since
+    /// which the version is due, it copies the whole store to see whether the mark held it, and takes that much time and memory.
     ///
     /// # Errors
     /// Those of [`read`](Store::read).
@@ -180,14 +181,23 @@ impl Store {
             sys::ELEPHANT_IS_CURRENT => Fate::Current,
             sys::ELEPHANT_IS_OPEN => Fate::Open,
             sys::ELEPHANT_IS_MARKED => {
-                // SAFETY: see `call`.
-                let group =
-                    self.name(|e, into, length| unsafe { sys::elephant_why_group(e, into.as_mut_ptr(), into.len(), length) })?;
-                Fate::Marked { group, mark: Mark { at: row.moment, until: unless_never(row.until) } }
+                Fate::Marked { group: self.why_group()?, mark: Mark { at: row.moment, until: unless_never(row.until) } }
             }
             sys::ELEPHANT_IS_KEPT => Fate::Kept { until: unless_never(row.until), level: unless_never(row.level) },
-            _ => Fate::Due { since: row.moment, cause: cause_of(row) },
+            _ => Fate::Due { held: self.why_hold()?, since: row.moment, cause: cause_of(row) },
         })
+    }
+
+    // The mark that held the version of the last `why`, if one did.
+    fn why_hold(&self) -> Result<Option<Hold>, Error> {
+        // SAFETY: see `call`.
+        let found = self.found(|e, mark| unsafe { sys::elephant_why_hold(e, mark) })?;
+        found.map(|row| Ok(Hold { group: self.why_group()?, mark: Mark::of_row(&row) })).transpose()
+    }
+
+    fn why_group(&self) -> Result<String, Error> {
+        // SAFETY: see `call`.
+        self.name(|e, into, length| unsafe { sys::elephant_why_group(e, into.as_mut_ptr(), into.len(), length) })
     }
 }
 

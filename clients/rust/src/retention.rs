@@ -1,6 +1,6 @@
 //! Policies, groups, marks and removals.
 
-use crate::questions::{due_of, read_rows, unless_never};
+use crate::questions::{due_of, read_rows};
 use crate::sys;
 use crate::{Error, Group, Mark, Pass, PassEnd, Policy, Removable, Store};
 
@@ -108,8 +108,7 @@ impl Store {
 
     fn mark_row(&self, group: u64, mark: u64) -> Result<Mark, Error> {
         // SAFETY: see `call`.
-        let row: sys::elephant_mark_row = self.row(|e, row| unsafe { sys::elephant_row_mark(e, group, mark, row) })?;
-        Ok(Mark { at: row.moment, until: unless_never(row.until) })
+        self.row(|e, row| unsafe { sys::elephant_row_mark(e, group, mark, row) }).map(|row| Mark::of_row(&row))
     }
 }
 

@@ -170,6 +170,16 @@ impl Store {
         Ok(row)
     }
 
+    // Makes a call that writes a number or a row, or finds none.
+    pub(crate) fn found<T: Default>(&self, made: impl FnOnce(*mut sys::elephant, &mut T) -> i32) -> Result<Option<T>, Error> {
+        let mut found = T::default();
+        match self.code(|e| made(e, &mut found)) {
+            sys::ELEPHANT_OK => Ok(Some(found)),
+            sys::ELEPHANT_NO_RESULT => Ok(None),
+            code => Err(Error::from_code(code, || None)),
+        }
+    }
+
     fn detail(&self) -> Option<u64> {
         let mut detail = 0;
         // SAFETY: see `call`.

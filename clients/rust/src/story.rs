@@ -23,7 +23,7 @@ pub struct VersionStory {
     pub info: Option<VersionSpan>,
     /// When it was removed. None if it is held.
     pub removed: Option<u64>,
-    /// The mark that held a due version after its policy had let it go. None if no mark did.
+    /// The mark that held a due version after its policy had let it go, as its fate has it. None if no mark did.
     pub held: Option<Hold>,
     /// What becomes of it, and why.
     pub fate: Option<Fate>,

@@ -287,6 +287,7 @@ extern "C" {
     pub fn elephant_row_member(e: *const elephant, index: u64, member: u64, file: *mut u64) -> i32;
     pub fn elephant_row_mark(e: *const elephant, index: u64, mark: u64, row: *mut elephant_mark_row) -> i32;
     pub fn elephant_why(e: *mut elephant, path: *const u8, len: usize, tag: u32, number: u64, row: *mut elephant_why_row) -> i32;
+    pub fn elephant_why_hold(e: *const elephant, mark: *mut elephant_mark_row) -> i32;
     pub fn elephant_why_group(e: *const elephant, into: *mut u8, room: usize, length: *mut u64) -> i32;
     pub fn elephant_clean(e: *mut elephant, removed: *mut elephant_key) -> i32;
     pub fn elephant_pass(e: *mut elephant, budget: u64, removed: *mut u64, finished: *mut u64) -> i32;

@@ -349,6 +349,12 @@ pub struct Mark {
     pub until: Option<u64>,
 }
 
+impl Mark {
+    pub(crate) fn of_row(row: &sys::elephant_mark_row) -> Mark {
+        Mark { at: row.moment, until: unless_never(row.until) }
+    }
+}
+
 /// Why a version is held, may be removed, or was.
 #[derive(Clone, Debug, PartialEq, Eq, Hash)]
 #[non_exhaustive]
@@ -373,6 +379,8 @@ pub enum Fate {
     },
     /// A clean may remove it.
     Due {
+        /// The mark that held it after its policy had let it go. None if no mark did.
+        held: Option<Hold>,
         /// Since when.
         since: u64,
         /// For what reason.

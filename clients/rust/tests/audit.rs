@@ -157,8 +157,9 @@ fn a_story_has_removed_versions_the_mark_that_held_one_and_old_names() {
     assert_eq!((found.file, rows), (1, vec![(1, Some(5), Some(0)), (2, Some(40), Some(5)), (3, None, None)]));
     let mark = Mark { at: 2, until: Some(30) };
     assert_eq!(found.versions[0].held, None);
-    assert_eq!(found.versions[1].held, Some(Hold { group: "g".to_owned(), mark }));
-    assert_eq!(found.versions[1].fate, Some(Fate::Due { since: 30, cause: Cause::AtOnce }));
+    let held = Some(Hold { group: "g".to_owned(), mark });
+    assert_eq!(found.versions[1].held, held);
+    assert_eq!(found.versions[1].fate, Some(Fate::Due { held, since: 30, cause: Cause::AtOnce }));
     assert_eq!(found.versions[2].fate, Some(Fate::Current));
     let name = |birth, death, path: &str| NameStory { birth, death, path: Some(path.to_owned()) };
     assert_eq!(found.names, [name(0, Some(40), "/a"), name(40, None, "/b")]);

@@ -1,8 +1,8 @@
 //! Each call once on its happy path, and each error that a store can answer.
 
 use elephant::{
-    at, moment, version, Cause, Counts, DeletedName, Entry, Error, Fate, Group, History, Limit, Limits, Mark, Node, Options,
-    PassEnd, Policy, Removable, Rung, Stat, Store, Usage, Version, LARGEST_CONTENT,
+    at, moment, version, Cause, Counts, DeletedName, Entry, Error, Fate, Group, History, Hold, Limit, Limits, Mark, Node,
+    Options, PassEnd, Policy, Removable, Rung, Stat, Store, Usage, Version, LARGEST_CONTENT,
 };
 use std::io::{self, BufRead, Read, Seek, SeekFrom, Write};
 use std::sync::{Arc, Mutex};
@@ -332,7 +332,7 @@ fn versions_become_due_and_a_pass_removes_them() {
     assert_eq!(store.ahead(LAST_MOMENT + 1), Err(Error::BadMoment));
     assert_eq!(store.why("/f"), Ok(Fate::Current));
     assert_eq!(store.why(version("/f", 2)), Ok(Fate::Kept { until: Some(15), level: None }));
-    assert_eq!(store.why(version("/f", 1)), Ok(Fate::Due { since: 5, cause: Cause::ByAge { seconds: 5 } }));
+    assert_eq!(store.why(version("/f", 1)), Ok(Fate::Due { held: None, since: 5, cause: Cause::ByAge { seconds: 5 } }));
     store.clock(15).unwrap();
     let pass = store.pass(1);
     assert_eq!((pass.removed, pass.end), (1, PassEnd::Budget));
@@ -346,9 +346,10 @@ fn a_ladder_tells_what_displaced_a_version() {
     store.set_policy("/f", &Policy::KeepLandmarks(vec![Rung { age: 10, width: 50 }])).unwrap();
     assert_eq!(store.why(version("/f", 2)), Ok(Fate::Kept { until: Some(20), level: Some(0) }));
     store.clock(20).unwrap();
-    assert_eq!(store.why(version("/f", 2)), Ok(Fate::Due { since: 20, cause: Cause::Displaced { level: 1, by: 3 } }));
+    let cause = Cause::Displaced { level: 1, by: 3 };
+    assert_eq!(store.why(version("/f", 2)), Ok(Fate::Due { held: None, since: 20, cause }));
     store.set_policy("/f", &Policy::KeepOne).unwrap();
-    assert_eq!(store.why(version("/f", 2)), Ok(Fate::Due { since: 10, cause: Cause::AtOnce }));
+    assert_eq!(store.why(version("/f", 2)), Ok(Fate::Due { held: None, since: 10, cause: Cause::AtOnce }));
 }
 
 #[test]
@@ -376,6 +377,26 @@ fn a_mark_keeps_what_was_current() {
     assert_eq!(store.group_remove("release", "/f"), Err(Error::NotMember));
     store.group_drop("release").unwrap();
     assert_eq!(store.group_drop("release"), Err(Error::NoGroup));
+}
+
+#[test]
+fn the_mark_that_held_a_version_is_told() {
+    let store = with_file();
+    store.group_make("release").unwrap();
+    store.group_add("release", "/f").unwrap();
+    store.mark("release", 6, Some(99)).unwrap();
+    store.set_policy("/f", &Policy::KeepSafe { seconds: 5, floor: 0 }).unwrap();
+    let (group, mark) = ("release".to_string(), Mark { at: 6, until: Some(99) });
+    assert_eq!(store.why(version("/f", 2)), Ok(Fate::Marked { group: group.clone(), mark }));
+    store.clock(120).unwrap();
+    let (held, cause) = (Some(Hold { group, mark }), Cause::ByAge { seconds: 5 });
+    assert_eq!(store.why(version("/f", 2)), Ok(Fate::Due { held, since: 99, cause }));
+    // No mark was made while version 1 was current.
+    assert_eq!(store.why(version("/f", 1)), Ok(Fate::Due { held: None, since: 5, cause }));
+    // The policy holds version 2 as long as the mark.
+    store.set_policy("/f", &Policy::KeepSafe { seconds: 89, floor: 0 }).unwrap();
+    let cause = Cause::ByAge { seconds: 89 };
+    assert_eq!(store.why(version("/f", 2)), Ok(Fate::Due { held: None, since: 99, cause }));
 }
 
 #[test]

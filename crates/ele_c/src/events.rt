@@ -43,7 +43,7 @@ pub extern "C" fn inner_event(
     code
 }
 
-/// Asks why a version is held.
+/// Asks why a version is held or due, and which mark held one that is due.
 #[unsafe(no_mangle)]
 pub extern "C" fn inner_why(
     alloc: Global,

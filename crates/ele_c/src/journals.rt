@@ -1,5 +1,5 @@
 //! Journals: the bytes that a store's file gets, and stores that are opened from files.
-ghost use Rattle.std.specs.Prelude.{not, ◌==◌, IfErr, IfOk, false, true};
+ghost use Rattle.std.specs.Prelude.{not, ◌≡◌, ◌==◌, IfErr, IfOk, false, length, pos, true};
 ghost use Rattle.ele_c.specs.Journals.{GivesText, IsFileOf, IsNoFile, OpensJournal, Settles};
 ghost use Rattle.ele_c.specs.Stored.{stored};
 ghost use Rattle.ele_embed.specs.Journals.{IsNotBegun, IsNotGiven, begun_journal, compacted, pended};
@@ -27,15 +27,9 @@ pub extern "C" fn elephant_journal_begin(
         return CLOSED;
     }
     let mut store = elephant.take(alloc).into_box();
-    let made = store.begin_journal();
-    let count = store.answer().len() as u64;
-    elephant.give(Parts::of(store));
-    match made {
-        Ok(()) => {
-            *length = count;
-            OK
-        }
-        Err(error) => journal_code(error),
+    match store.begin_journal() {
+        Ok(()) => give_text(elephant, store, length),
+        Err(error) => give_back(elephant, store, journal_code(error)),
     }
 }
 
@@ -53,15 +47,9 @@ pub extern "C" fn elephant_journal_pending(
         return CLOSED;
     }
     let mut store = elephant.take(alloc).into_box();
-    let made = store.pending();
-    let count = store.answer().len() as u64;
-    elephant.give(Parts::of(store));
-    match made {
-        Ok(()) => {
-            *length = count;
-            OK
-        }
-        Err(error) => journal_code(error),
+    match store.pending() {
+        Ok(()) => give_text(elephant, store, length),
+        Err(error) => give_back(elephant, store, journal_code(error)),
     }
 }
 
@@ -79,16 +67,34 @@ pub extern "C" fn elephant_journal_compact(
         return CLOSED;
     }
     let mut store = elephant.take(alloc).into_box();
-    let made = store.compact();
-    let count = store.answer().len() as u64;
-    elephant.give(Parts::of(store));
-    match made {
-        Ok(()) => {
-            *length = count;
-            OK
-        }
-        Err(error) => journal_code(error),
+    match store.compact() {
+        Ok(()) => give_text(elephant, store, length),
+        Err(error) => give_back(elephant, store, journal_code(error)),
     }
+}
+
+// Puts the store back, and gives the length of its text.
+fn give_text(elephant: &mut Elephant, store: Box<Store>, count: &mut u64) -> i32
+    requires closed { elephant.old.is_full ≡ false }
+    ensures full { elephant.new.is_full ≡ true }
+    ensures given { elephant.new.held ≡ store.value }
+    ensures code { result ≡ pos 0 }
+    ensures count { count.new ≡ length store.value.answer }
+{
+    *count = store.answer().len() as u64;
+    elephant.give(Parts::of(store));
+    OK
+}
+
+// Puts the store back, and returns the code.
+fn give_back(elephant: &mut Elephant, store: Box<Store>, code: i32) -> i32
+    requires closed { elephant.old.is_full ≡ false }
+    ensures full { elephant.new.is_full ≡ true }
+    ensures given { elephant.new.held ≡ store.value }
+    ensures code { result ≡ code }
+{
+    elephant.give(Parts::of(store));
+    code
 }
 
 /// Says that the bytes that were given last are on the disk.

@@ -25,7 +25,8 @@ use Rattle.ele_runs.specs.declared.said.Said.TheVariants as said
 abbrev pub kinds : List Kind
 kinds =
     kind.Now ∷ kind.Detail ∷ kind.History ∷ kind.Pass ∷ kind.Why ∷ kind.Key ∷ kind.Removed ∷ kind.Version ∷ kind.Name ∷ kind.Usage
-    ∷ kind.Group ∷ kind.Member ∷ kind.Mark ∷ kind.Stat ∷ kind.Rung ∷ kind.Counts ∷ []
+    ∷ kind.Group ∷ kind.Member ∷ kind.Mark ∷ kind.Stat ∷ kind.Rung ∷ kind.Counts
+    ∷ kind.Hold ∷ []
 
 -- a row of a list that is kept, or 69; a kind of which nothing is kept is 68
 abbrev pub row_as : {X Y : Type 0} → (X → Y) → Option X → Result Y ℤ
@@ -53,6 +54,11 @@ abbrev pub why_in : Said → Result Numbers ℤ
 why_in (said.Why (Ok fate)) = Ok (fate_numbers fate)
 why_in (said.WhyHeld fate hold) = Ok (fate_numbers fate)
 why_in other = Err (pos 68)
+
+-- the mark that held a version after its policy had let it go
+abbrev pub hold_in : Said → Result Numbers ℤ
+hold_in (said.WhyHeld fate hold) = Ok (mark_numbers hold.mark)
+hold_in other = Err (pos 68)
 
 abbrev pub due_in : Option Reply → ℕ → Result Numbers ℤ
 due_in (Some (reply.DueList keys)) index = row_in key_numbers keys index
@@ -137,6 +143,7 @@ numbers_of kind.Mark store index inner = mark_in (group_in (reply_of store) inde
 numbers_of kind.Stat store index inner = stat_in (reply_of store)
 numbers_of kind.Rung store index inner = rung_in (reply_of store) index
 numbers_of kind.Counts store index inner = Ok (counts_made store)
+numbers_of kind.Hold store index inner = hold_in store.said
 
 -- a number that no kind has keeps nothing
 abbrev pub numbers_at : Option Kind → Embedding → ℕ → ℕ → Result Numbers ℤ
@@ -155,9 +162,10 @@ bytes_in (Some (reply.RestoreList names)) index = row_in (λ (dead : DeletedName
 bytes_in (Some (reply.GroupList groups)) index = row_in (λ (group : GroupRow). group.name) groups index
 bytes_in other index = Err (pos 68)
 
--- the name of the group whose mark holds a version
+-- the name of the group whose mark holds a version, or held it after its policy had let it go
 abbrev pub marked_in : Said → Result (List ℕ) ℤ
 marked_in (said.Why (Ok (fate.Marked group mark))) = Ok group
+marked_in (said.WhyHeld fate hold) = Ok hold.group
 marked_in other = Err (pos 68)
 
 -- the kept bytes of a kind: 0 the content, 1 the text of the last answer, 2 the name of a row, 3 the name of the mark's group

@@ -9,7 +9,7 @@ use ele_embed::{Said, Store};
 use ele_model::{Fate, Reply};
 
 /// Returns the kept bytes of a kind: 0 the content, 1 the text of the last answer, 2 the name of a row,
-/// 3 the name of the group whose mark holds a version.
+/// 3 the name of the group whose mark holds a version, or held it after its policy had let it go.
 pub fn bytes_at(store: &Store, kind: u32, index: u64) -> Result<&[u8], i32>
     ensures { result_map_both (λ bytes. bytes.now) (λ code. code) result
         ≡ bytes_at store.now kind index }
@@ -58,6 +58,7 @@ fn marked_in(said: &Said) -> Result<&[u8], i32>
 {
     match said {
         Said::Why(Ok(Fate::Marked { group, mark: _ })) => Ok(group.bytes()),
+        Said::WhyHeld(_, hold) => Ok(hold.group.bytes()),
         _ => Err(NO_RESULT),
     }
 }

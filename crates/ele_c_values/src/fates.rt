@@ -1,9 +1,10 @@
 //! Why a version is held, in numbers.
 ghost use Rattle.std.specs.Prelude.{◌≡◌};
-ghost use Rattle.ele_c_values.specs.Kept.{why_in};
+ghost use Rattle.ele_c_values.specs.Kept.{hold_in, why_in};
 ghost use Rattle.ele_c_values.specs.Numbers.{due_numbers, fate_numbers, or_never};
 
 use crate::codes::{NEVER, NO_RESULT, or_never};
+use crate::groups::mark_numbers;
 use crate::numbers::{NONE, Numbers};
 use ele_embed::Said;
 use ele_model::{Cause, Fate, Moment};
@@ -15,6 +16,16 @@ pub(crate) fn why_in(said: &Said) -> Result<Numbers, i32>
     match said {
         Said::Why(Ok(fate)) => Ok(fate_numbers(fate)),
         Said::WhyHeld(fate, _) => Ok(fate_numbers(fate)),
+        _ => Err(NO_RESULT),
+    }
+}
+
+/// The mark that held a version after its policy had let it go.
+pub(crate) fn hold_in(said: &Said) -> Result<Numbers, i32>
+    ensures { result ≡ hold_in said.now }
+{
+    match said {
+        Said::WhyHeld(_, hold) => Ok(mark_numbers(&hold.mark)),
         _ => Err(NO_RESULT),
     }
 }

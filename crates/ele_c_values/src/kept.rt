@@ -6,7 +6,7 @@ ghost use Rattle.ele_c_values.specs.Numbers.{key_numbers};
 ghost use Rattle.ele_embed.specs.Embedding.{reply_of};
 
 use crate::codes::{NO_HISTORY, NO_RESULT, NO_ROW, detail_of, or_never};
-use crate::fates::why_in;
+use crate::fates::{hold_in, why_in};
 use crate::groups::{group_at, mark_at, member_at};
 use crate::kind::Kind;
 use crate::limits::counts_made;
@@ -57,6 +57,7 @@ pub fn numbers_at(store: &Store, kind: Option<Kind>, index: u64, inner: u64) -> 
         Kind::Stat => stat_in(store.reply()),
         Kind::Rung => rung_in(store.reply(), index),
         Kind::Counts => Ok(counts_made(store)),
+        Kind::Hold => hold_in(store.said()),
     }
 }
 

@@ -21,10 +21,11 @@ pub enum Kind {
     Stat,
     Rung,
     Counts,
+    Hold,
 }
 
 // The kinds in the order of their numbers, which is that of the type.
-static KINDS: [Kind; 16] = [
+static KINDS: [Kind; 17] = [
     Kind::Now,
     Kind::Detail,
     Kind::History,
@@ -41,6 +42,7 @@ static KINDS: [Kind; 16] = [
     Kind::Stat,
     Kind::Rung,
     Kind::Counts,
+    Kind::Hold,
 ];
 
 /// Returns the kind of a number, if there is one.

@@ -3,6 +3,7 @@ pub mod Takes
 pub mod Hears
 pub mod Text
 pub mod Kept
+pub mod Ends
 pub mod Checkpoints
 pub mod Renewal
 pub mod Journals

@@ -3,7 +3,6 @@ use Rattle.std.specs.Prelude.{◌≡◌, ℕ, Bool, true, false, List, None, Res
 use Rattle.ele_core.specs.Copies.{Copies}
 use Rattle.ele_embed.specs.Embedding.{Embedding, State, Plain, past_in, world_in}
 use Rattle.ele_files.specs.declared.files.reading.Copied.{Copied}
-use Rattle.ele_model.specs.Why.{IsWhy}
 use Rattle.ele_model.specs.World.{World}
 use Rattle.ele_model.specs.declared.event.Event.{Event}
 use Rattle.ele_model.specs.declared.event.Source.{Source}
@@ -14,7 +13,7 @@ use Rattle.ele_runs.specs.Kept.{has_past}
 pub use Rattle.ele_runs.specs.Kept.{Passes}
 use Rattle.ele_runs.specs.Said.{Explains, Records, Trims}
 use Rattle.ele_runs.specs.declared.said.Said.{Said}
-use Rattle.ele_runs.specs.declared.said.Said.TheVariants.{Bad, Why}
+use Rattle.ele_runs.specs.declared.said.Said.TheVariants.{Bad}
 use Rattle.ele_script.specs.declared.reading.Question.TheVariants as question
 
 -- an event was applied, or there was a fault in its place, which leaves the store
@@ -26,10 +25,10 @@ Runs before (Err fault) said after = (said ≡ Bad fault) × (after ≡ before)
 abbrev pub CopiesRead : State → Source → ℕ → List ℕ → List ℕ → Result Copied Refusal → Type 0
 CopiesRead state source offset old new told = Copies (world_in state) source offset old new told
 
--- the answer says why a version is held or due, or is the fault in place of its path
+-- the answer says why a version is held or due, and which mark held one that is due, or is the fault in place of the path; memory may stop
+-- it only if the version is due
 abbrev pub TellsWhy : World → Result TaggedPath LineFault → Said → Type 0
-TellsWhy w (Ok tagged) (Why told) = IsWhy w tagged told
-TellsWhy w (Ok tagged) said = ⊥
+TellsWhy w (Ok tagged) said = Explains (Plain w None) (question.Why tagged) said
 TellsWhy w (Err fault) said = said ≡ Bad fault
 
 -- the answer has the keys that will be due, or is the fault in place of the moment; memory may stop it only if it takes some

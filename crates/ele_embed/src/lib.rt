@@ -22,6 +22,7 @@ mod keeper;
 pub mod laws;
 mod opening;
 mod renewal;
+mod why;
 
 pub use crate::checkpoint::CheckpointError;
 pub use crate::from_flat::OpenError;
@@ -30,6 +31,7 @@ use crate::journaled::JournaledKeeper;
 use crate::keeper::Keeper;
 pub use crate::opening::{OpenJournalError, OpenedStore};
 pub use crate::renewal::RenewalError;
+use crate::why::explain_why;
 pub use ele_core::Copied;
 use ele_core::Core;
 use ele_history::History;
@@ -145,14 +147,19 @@ impl Store {
         true
     }
 
-    /// Answers why a version is held or due, or with the fault in place of its path. The store stays.
+    /// Answers why a version is held or due, and which mark held one that is due after its policy had let
+    /// it go, or with the fault in place of its path. The store stays. It takes no memory unless the
+    /// version is due.
+    ///
+    /// Cost: of a due version a copy of the groups, and of all rows if a mark ended at the moment since
+    /// which it is due.
     pub fn why(&mut self, asked: Result<TaggedPath, LineFault>)
         ensures why { TellsWhy (world_in self.old.state) asked self.new.said }
         ensures state { self.new.state ≡ self.old.state }
         ensures answer { self.new.answer ≡ self.old.answer }
     {
         match asked {
-            Ok(tagged) => self.said = Said::Why(self.keeper.core().fate_at(&tagged)),
+            Ok(tagged) => self.said = explain_why(tagged, self.keeper.core()),
             Err(fault) => self.said = Said::Bad(fault),
         }
     }

@@ -241,17 +241,23 @@ def _cause_words(cause: Cause, age: Optional[int], by: Optional[int], level: Opt
     }[cause]
 
 
+def _held_words(held: Optional[Marked]) -> str:
+    """Returns the mark that held a version as the script language prints it, with a space after."""
+    return "" if held is None else f"held{str(held)[len('marked'):]} "
+
+
 class Due(NamedTuple):
     """The version may be removed since a moment.
 
     By one of three causes: `age` seconds have passed since its end; version `by` closed in the same span at `level` of the ladder;
-    or neither, as its policy is KeepOne.
+    or neither, as its policy is KeepOne. `held` is the mark that held it after its policy had let it go (None: no mark did).
     """
 
     since: Moment
     age: Optional[int] = None
     by: Optional[int] = None
     level: Optional[int] = None
+    held: Optional[Marked] = None
 
     @property
     def cause(self) -> Cause:
@@ -261,7 +267,7 @@ class Due(NamedTuple):
         return Cause.AT_ONCE if self.age is None else Cause.BY_AGE
 
     def __str__(self) -> str:
-        return f"due {self.since}{_cause_words(self.cause, self.age, self.by, self.level)}"
+        return f"{_held_words(self.held)}due {self.since}{_cause_words(self.cause, self.age, self.by, self.level)}"
 
 
 class Removed(NamedTuple):
@@ -279,8 +285,8 @@ class Removed(NamedTuple):
     held: Optional[Marked] = None
 
     def __str__(self) -> str:
-        held = "" if self.held is None else f" held{str(self.held)[len('marked'):]}"
-        return f"removed {self.moment}{held} due {self.since}{_cause_words(self.cause, self.age, self.by, self.level)}"
+        due = f"{_held_words(self.held)}due {self.since}{_cause_words(self.cause, self.age, self.by, self.level)}"
+        return f"removed {self.moment} {due}"
 
 
 Fate = Union[Current, Open, Marked, Kept, Due, Removed]
@@ -329,7 +335,7 @@ class VersionStory(NamedTuple):
     """What is known of a version: when it closed and ended (None: it has not ended), its length, and what becomes of it.
 
     `removed` is when a stored event removed it (None: it is held); the rest is then what was known just before. `held` is the mark that
-    held a due version after its policy had let it go (None: no mark did).
+    held a due version after its policy had let it go (None: no mark did), as its `fate` has it.
     """
 
     number: int

@@ -217,6 +217,16 @@ class Core:
             self.refuse(code, subject)
         return row
 
+    def row_found(self, call: Call, kind: type[ctypes.Structure]) -> Any:
+        """Makes a call that returns a row of what the handle keeps, and returns it, or None if there is none."""
+        row = kind()
+        code = call(self.handle, byref(row))
+        if code == NO_RESULT:
+            return None
+        if code:
+            self.refuse(code)
+        return row
+
     def rows(self, call: Call, kind: type[ctypes.Structure], count: int) -> Iterator[Any]:
         """Yields the rows of the kept list, each in the same object."""
         row = kind()

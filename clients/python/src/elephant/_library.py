@@ -57,10 +57,10 @@ _CALLS = {
     "row_usage": "number out", "policy": "text text", "default": "text text", "group_make": "text", "group_drop": "text",
     "group_add": "text text", "group_remove": "text text", "mark": "text number number", "unmark": "text number", "groups": "out",
     "row_group": "number out", "row_member": "number number out", "row_mark": "number number out", "why": "text word number out",
-    "why_group": "into out", "clean": "out", "pass": "number out out", "history": "out out", "note": "text", "trim": "out",
-    "checkpoint": "out", "open_checkpoint": "text word", "renew": "", "directory_across": "number out", "file_across": "number out",
-    "version_across": "number number out", "journal_begin": "out", "journal_open": "text word out out", "journal_pending": "out",
-    "journal_written": "", "journal_compact": "out",
+    "why_hold": "out", "why_group": "into out", "clean": "out", "pass": "number out out", "history": "out out", "note": "text",
+    "trim": "out", "checkpoint": "out", "open_checkpoint": "text word", "renew": "", "directory_across": "number out",
+    "file_across": "number out", "version_across": "number number out", "journal_begin": "out", "journal_open": "text word out out",
+    "journal_pending": "out", "journal_written": "", "journal_compact": "out",
 }
 # End of the calls.
 

@@ -167,8 +167,8 @@ class Questions(Turns):
         return [Removable(Moment(since), file, number) for since, file, number in keys]
 
     def why(self, path: Path, *, at: Optional[MomentLike] = None, version: Optional[SupportsIndex] = None) -> Fate:
-        """Returns why a version stays, or since when it may be removed. In a store with a history also when and why `version` was removed.
-        """
+        """Returns why a version stays, or since when it may be removed and which mark held it until then. In a store with a history also when
+        and why `version` was removed."""
         name, (tag, number) = spell(path), self._tag(at, version)
         with self._lock:
             core = self._begin()
@@ -241,19 +241,27 @@ class Questions(Turns):
             return core.line(line)
 
 
-def _marked(core: Core, row: Any) -> Fate:
+def _marked(core: Core, row: Any) -> Marked:
+    """Returns a mark of the last answer to why, with the name of its group."""
     length = core.look(core.library.elephant_why_group, "", core.name_room, len(core.name_room))
     return Marked(name_of(core.name_room.raw[:length]), Moment(row.moment), moment_or_none(row.until))
+
+
+def _held(core: Core) -> Optional[Marked]:
+    """Returns the mark that held the version that is due, or None if no mark did."""
+    row = core.row_found(core.library.elephant_why_hold, MarkRow)
+    return None if row is None else _marked(core, row)
 
 
 def _kept(_: Core, row: Any) -> Fate:
     return Kept(moment_or_none(row.until), None if row.level == NEVER else row.level)
 
 
-def _due(_: Core, row: Any) -> Fate:
+def _due(core: Core, row: Any) -> Fate:
+    since, held = Moment(row.moment), _held(core)
     if row.cause == 0:
-        return Due(Moment(row.moment))
-    return Due(Moment(row.moment), age=row.seconds) if row.cause == 1 else Due(Moment(row.moment), by=row.by, level=row.level)
+        return Due(since, held=held)
+    return Due(since, age=row.seconds, held=held) if row.cause == 1 else Due(since, by=row.by, level=row.level, held=held)
 
 
 _FATES: tuple[Callable[[Core, Any], Fate], ...] = (lambda *_: Current(), lambda *_: Open(), _marked, _kept, _due)

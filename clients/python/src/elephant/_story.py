@@ -31,8 +31,10 @@ def read_story(answer: bytes) -> Story:
 def _version(found: re.Match[str]) -> VersionStory:
     row, (number, closed, ended, length, removed) = found[0], found.group(*range(1, 6))
     held, fate = held_in(found, 6), _fate(found[9], row)
-    if held is not None and not isinstance(fate, Due):
-        fail(row)
+    if held is not None:
+        if not isinstance(fate, Due):
+            fail(row)
+        fate = fate._replace(held=held)
     moments = _moment(closed, row), _moment(ended, row)
     return VersionStory(int(number), *moments, number_or_none(length), fate, _moment(removed, row), held)
 
