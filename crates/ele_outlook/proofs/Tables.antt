@@ -24,12 +24,14 @@ use Rattle.ele_forecast_forms.specs.declared.counts.Counts.{Counts}
 use Rattle.ele_forecast_text.specs.Reach.{first_of}
 use Rattle.ele_space.specs.Amounts.{AreAmountsAt}
 use Rattle.ele_outlook.specs.declared.options.Form.{Form}
-use Rattle.ele_outlook.specs.declared.options.Form.TheVariants.{Table, Drawing, BytesDrawing, Due, Kept, Json, Csv, Every, EveryCsv}
+use Rattle.ele_outlook.specs.declared.options.Form.TheVariants.{Table, Drawing, BytesDrawing, Due, Kept, Json, Csv, Every, EveryCsv, Against, Suggest}
 use Rattle.ele_outlook.specs.Reading.{IsFoundIn, IsOfForm, MayLack}
 use Rattle.ele_outlook.specs.declared.input.ReadLines.{ReadLines}
 use Rattle.ele_outlook.specs.declared.found.Found.{Found}
 use Rattle.ele_outlook.specs.declared.options.ForecastOptions.{ForecastOptions}
-use Rattle.ele_outlook.specs.Told.{AreRows, AsksMuch, IsForecastText, IsOver, amount_moments, is_over, plain_table, stayings_of, texts_of, told_csv, told_of, told_table}
+use Rattle.ele_outlook.specs.Suggested.{IsSuggested, suggests}
+use Rattle.ele_outlook.specs.Parts.{stayings_of, texts_of}
+use Rattle.ele_outlook.specs.Told.{AreRows, AsksMuch, IsForecastText, IsOver, amount_moments, clock_of, is_over, plain_table, told_csv, told_of, told_table}
 
 -- the table of several plans, or none
 pub compared_for : (named : Bool) (details : Details) (plans : List Plan) (moments : ℕ) → length plans ≢ 1 → compared_text details plans moments ≡ plain_table named details plans moments
@@ -71,12 +73,13 @@ planned_some (policy ∷ policies) closings moments plans are some = λ none. ab
 
 -- there was no memory for what the form shows
 pub unfound : (options : ForecastOptions) (closings : List ℕ) (plans : List Plan) → ArePlans options.policies.items closings options.moments.items plans → MayLack options plans → (closings ≢ []) ⊎ AsksMuch options
-unfound options closings plans are (inl rules) = inr (inr (inr rules))
+unfound options closings plans are (inl rules) = inr (inr (inr (inl rules)))
 unfound options closings plans are (inr (inl some)) = inr (inl some)
 unfound options closings plans are (inr (inr (inl some))) = inr (inl (asked options.policies.items closings options.moments.items plans are some))
 unfound options closings plans are (inr (inr (inr (inl some)))) = inl (closed_some options.policies.items closings options.moments.items plans are some)
 unfound options closings plans are (inr (inr (inr (inr (inl drawn))))) = inr (inr (inl (drawn_some options.policies.items closings options.moments.items plans are drawn)))
-unfound options closings plans are (inr (inr (inr (inr (inr some))))) = inr (inr (inl (planned_some options.policies.items closings options.moments.items plans are some)))
+unfound options closings plans are (inr (inr (inr (inr (inr (inl some)))))) = inr (inr (inl (planned_some options.policies.items closings options.moments.items plans are some)))
+unfound options closings plans are (inr (inr (inr (inr (inr (inr wanted)))))) = inr (inr (inr (inr wanted)))
 
 -- if the form shows bytes at some moment, there is a row or a plan
 pub shown_some : (form : Form) (sizes : Bool) (plans : List Plan) (rows : List Counts) → amount_moments form sizes plans rows ≢ [] → (rows ≢ []) ⊎ (plans ≢ [])
@@ -93,6 +96,8 @@ shown_some (Every step) true plans (row ∷ rows) some = inl (λ none. absurd cc
 shown_some (Every step) true plans [] some = absurd (some refl)
 shown_some (EveryCsv step) sizes plans [] some = absurd (some refl)
 shown_some (EveryCsv step) sizes plans (row ∷ rows) some = inl (λ none. absurd cc)
+shown_some (Against layout) sizes plans rows some = absurd (some refl)
+shown_some (Suggest layout) sizes plans rows some = absurd (some refl)
 
 -- no rules keep nothing
 pub none_judged : (rules : List AskedRule) (rows : List Row) (moments : List ℕ) → (length rules == 0) ≡ true → AreJudged rules rows moments []
@@ -139,6 +144,10 @@ is_text options read plans found form are short found_is =
         amounts = subst (λ (closings : List ℕ). AreAmountsAt (amount_moments options.form options.sizes plans found.counts.items) closings read.details.sizes.items plans found.amounts.items) form.closings found_is.amounts;
         bytes = found_is.bytes;
         removals = found_is.removals;
+        compared = found_is.compared;
+        suggested = subst
+            (λ (closings : List ℕ). IsSuggested (suggests options.form) options.keep (clock_of options) read.details.sizes.items closings options.moments.items found.suggested)
+            form.closings found_is.suggested;
       };
       text_is = refl;
     }

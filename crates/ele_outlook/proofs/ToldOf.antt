@@ -4,7 +4,8 @@ use Rattle.std.specs.Prelude.{decimal}
 use Rattle.ele_outlook.specs.Foretold.{IsToldOf, TellsForecast}
 use Rattle.ele_outlook.specs.Input.{SpellRows, closings_of, labels_of, lines_of}
 use Rattle.ele_outlook.specs.Reading.{AreRead, IsOfForm, TellsRead}
-use Rattle.ele_outlook.specs.Told.{IsForecastText, line_form, texts_of}
+use Rattle.ele_outlook.specs.Parts.{texts_of}
+use Rattle.ele_outlook.specs.Told.{IsForecastText, line_form}
 use Rattle.ele_rule_parts.specs.declared.row.Row.{Row}
 use Rattle.ele_outlook.specs.declared.input.ReadLines.{ReadLines}
 use Rattle.ele_outlook.specs.declared.options.ForecastOptions.{ForecastOptions}

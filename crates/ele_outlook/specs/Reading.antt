@@ -9,8 +9,11 @@ use Rattle.ele_forecast_text.specs.Plan.{versions_of}
 use Rattle.ele_forecast_text.specs.declared.plan.Plan.{Plan}
 use Rattle.ele_svg.specs.Drawing.{has_curves}
 use Rattle.ele_forecast_text.specs.declared.details.Details.{Details}
+use Rattle.ele_outlook.specs.Against.{AreCompared, compares}
+use Rattle.ele_outlook.specs.Parts.{stayings_of, texts_of}
+use Rattle.ele_outlook.specs.Suggested.{IsSuggested, suggests}
 use Rattle.ele_outlook.specs.Input.{HasFields, HasSize, IsBad, IsFirstBad, SpellRows, SpellsLine, closings_of, label_of, labels_of, lines_of, size_words_of}
-use Rattle.ele_outlook.specs.Told.{AreDetails, AreDrawn, AreFreed, AreRows, AsksMuch, IsForecastText, IsOver, amount_moments, has_removals, line_form, listed_numbers, stayings_of, texts_of}
+use Rattle.ele_outlook.specs.Told.{AreDetails, AreDrawn, AreFreed, AreRows, AsksMuch, IsForecastText, IsOver, amount_moments, clock_of, has_removals, line_form, listed_numbers}
 use Rattle.ele_rule_parts.specs.declared.row.Row.{Row}
 use Rattle.ele_rule_forecast.specs.Judged.{AreJudged}
 use Rattle.ele_space.specs.Amounts.{AreAmountsAt}
@@ -132,10 +135,12 @@ pub record IsFoundIn (options : ForecastOptions) (read : ReadLines) (plans : Lis
   pub amounts : AreAmountsAt (amount_moments options.form options.sizes plans found.counts.items) read.closings read.details.sizes.items plans found.amounts.items
   pub bytes : AreDrawn options.form found.amounts.items found.bytes.items
   pub removals : AreFreed (has_removals options) plans found.removals.items
+  pub compared : AreCompared (compares options.form) read.details.labels.items plans found.judged.items options.others.items found.compared
+  pub suggested : IsSuggested (suggests options.form) options.keep (clock_of options) read.details.sizes.items read.closings options.moments.items found.suggested
 
--- there are rules, moments or plans, or a plan with moments, versions or curves
+-- there are rules, moments or plans, a plan with moments, versions or curves, or a policy is suggested
 abbrev pub MayLack : ForecastOptions → List Plan → Type 0
-MayLack options plans = (options.rules.items ≢ []) ⊎ (options.moments.items ≢ []) ⊎ (stayings_of plans ≢ []) ⊎ (versions_of plans ≢ []) ⊎ (has_curves plans ≡ true) ⊎ (plans ≢ [])
+MayLack options plans = (options.rules.items ≢ []) ⊎ (options.moments.items ≢ []) ⊎ (stayings_of plans ≢ []) ⊎ (versions_of plans ≢ []) ⊎ (has_curves plans ≡ true) ⊎ (plans ≢ []) ⊎ (suggests options.form ≡ true)
 
 -- what was read has the fields that the options want, and its closings are those of its rows
 pub record IsOfForm (options : ForecastOptions) (read : ReadLines) : Type 0 where

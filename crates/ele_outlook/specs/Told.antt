@@ -16,10 +16,10 @@ use Rattle.ele_forecast_text.specs.Plan.{ArePlans}
 use Rattle.ele_forecast_text.specs.Table.{table_text}
 use Rattle.ele_forecast_text.specs.declared.details.Columns.{Columns}
 use Rattle.ele_forecast_text.specs.declared.details.Details.{Details}
-use Rattle.ele_forecast_text.specs.declared.label.Label.{Label}
 use Rattle.ele_forecast_text.specs.declared.plan.Plan.{Plan}
 use Rattle.ele_forecast_text.specs.declared.staying.Staying.{Staying}
 use Rattle.ele_rule_parts.specs.declared.row.Row.{Row}
+use Rattle.ele_tool_words.specs.declared.zone.Offset.{Offset}
 use Rattle.ele_tool_words.specs.declared.zone.Offset.TheVariants.{Ahead}
 use Rattle.ele_rule_forecast.specs.Judged.{AreJudged}
 use Rattle.ele_rule_forecast.specs.RuledCsv.{ruled_csv}
@@ -32,11 +32,14 @@ use Rattle.ele_space.specs.declared.amounts.Amount.{Amount}
 use Rattle.ele_space.specs.declared.amounts.Amounts.{Amounts}
 use Rattle.ele_space.specs.Removals.{AreRemovals, removals_member, removals_text}
 use Rattle.ele_space.specs.declared.removals.Removals.{Removals}
+use Rattle.ele_outlook.specs.Against.{AreCompared, against_text, compares, word_here}
 use Rattle.ele_outlook.specs.Input.{closings_of}
+use Rattle.ele_outlook.specs.Parts.{texts_of}
+use Rattle.ele_outlook.specs.Suggested.{IsSuggested, suggested_text, suggests}
 use Rattle.ele_outlook.specs.declared.found.Found.{Found}
 use Rattle.ele_outlook.specs.declared.options.ForecastOptions.{ForecastOptions}
 use Rattle.ele_outlook.specs.declared.options.Form.{Form}
-use Rattle.ele_outlook.specs.declared.options.Form.TheVariants.{Table, Drawing, BytesDrawing, Due, Kept, Json, Csv, Every, EveryCsv}
+use Rattle.ele_outlook.specs.declared.options.Form.TheVariants.{Table, Drawing, BytesDrawing, Due, Kept, Json, Csv, Every, EveryCsv, Against, Suggest}
 use Rattle.ele_outlook.specs.declared.options.LineForm.{LineForm}
 
 -- the numbers of the listed versions: those that are due at the first of the moments, or kept then
@@ -51,15 +54,12 @@ numbers_at Json forecasts (staying ∷ others) = []
 numbers_at Csv forecasts (staying ∷ others) = []
 numbers_at (Every step) forecasts (staying ∷ others) = []
 numbers_at (EveryCsv step) forecasts (staying ∷ others) = []
+numbers_at (Against layout) forecasts (staying ∷ others) = []
+numbers_at (Suggest layout) forecasts (staying ∷ others) = []
 
 abbrev pub listed_numbers : Form → List Plan → List ℕ
 listed_numbers form [] = []
 listed_numbers form (plan ∷ plans) = numbers_at form plan.forecasts.items plan.stayings.items
-
--- the moments of the first plan, with the versions that stay then
-abbrev pub stayings_of : List Plan → List Staying
-stayings_of [] = []
-stayings_of (plan ∷ plans) = plan.stayings.items
 
 -- a line with the policy, if it is wanted
 abbrev pub policy_line : Bool → Plan → List ℕ
@@ -118,6 +118,8 @@ told_text Json options details plans found = told_json details plans found.judge
 told_text Csv options details plans found = told_csv details plans found.judged.items
 told_text (Every step) options details plans found = told_over_time options.sizes plans found
 told_text (EveryCsv step) options details plans found = amounts_csv options.sizes plans found.amounts.items
+told_text (Against layout) options details plans found = against_text layout details (word_here plans found.judged.items) found.compared
+told_text (Suggest layout) options details plans found = suggested_text layout options.sizes found.suggested
 
 abbrev pub told_of : ForecastOptions → Details → List Plan → Found → List ℕ
 told_of options details plans found = told_text options.form options details plans found
@@ -134,6 +136,8 @@ AreRows Json closings plans rows = rows ≡ []
 AreRows Csv closings plans rows = rows ≡ []
 AreRows (Every step) closings plans rows = AreCountsEvery step closings plans rows
 AreRows (EveryCsv step) closings plans rows = AreCountsEvery step closings plans rows
+AreRows (Against layout) closings plans rows = rows ≡ []
+AreRows (Suggest layout) closings plans rows = rows ≡ []
 
 -- the moments of the rows of a table over time, if it has bytes
 abbrev pub moments_if : Bool → List Counts → List ℕ
@@ -156,6 +160,8 @@ amount_moments Json sizes plans rows = []
 amount_moments Csv sizes plans rows = []
 amount_moments (Every step) sizes plans rows = moments_if sizes rows
 amount_moments (EveryCsv step) sizes plans rows = moments_if true rows
+amount_moments (Against layout) sizes plans rows = []
+amount_moments (Suggest layout) sizes plans rows = []
 
 -- a curve shows at most the largest number of 64 bits
 abbrev pub drawn_bytes : Amount → ℕ
@@ -177,6 +183,8 @@ AreDrawn Json amounts drawn = drawn ≡ []
 AreDrawn Csv amounts drawn = drawn ≡ []
 AreDrawn (Every step) amounts drawn = drawn ≡ []
 AreDrawn (EveryCsv step) amounts drawn = drawn ≡ []
+AreDrawn (Against layout) amounts drawn = drawn ≡ []
+AreDrawn (Suggest layout) amounts drawn = drawn ≡ []
 
 -- which forms list the versions that are due at each moment
 abbrev pub lists_due : Form → Bool
@@ -189,6 +197,8 @@ lists_due Kept = false
 lists_due Csv = false
 lists_due (Every step) = false
 lists_due (EveryCsv step) = false
+lists_due (Against layout) = false
+lists_due (Suggest layout) = false
 
 -- they do so if versions have sizes and a moment is given
 abbrev pub has_removals : ForecastOptions → Bool
@@ -210,11 +220,10 @@ is_over Json plans = false
 is_over Csv plans = false
 is_over (Every step) plans = is_too_long step plans
 is_over (EveryCsv step) plans = is_too_long step plans
+is_over (Against layout) plans = false
+is_over (Suggest layout) plans = false
 
-abbrev pub texts_of : List Label → List (List ℕ)
-texts_of labels = map (λ label. label.text.items) labels
-
--- only in JSON must a label be UTF-8
+-- only in JSON of versions must a label be UTF-8
 abbrev pub is_json : Form → Bool
 is_json Json = true
 is_json Table = false
@@ -225,10 +234,16 @@ is_json Kept = false
 is_json Csv = false
 is_json (Every step) = false
 is_json (EveryCsv step) = false
+is_json (Against layout) = false
+is_json (Suggest layout) = false
+
+-- the clock of a time that names no offset
+abbrev pub clock_of : ForecastOptions → Offset
+clock_of options = unwrap_or options.clock (Ahead 0)
 
 -- the fields that the lines of an input must have
 abbrev pub line_form : ForecastOptions → LineForm
-line_form options = record { columns = record { labels = options.labels; sizes = options.sizes }; texts = is_json options.form; clock = unwrap_or options.clock (Ahead 0) }
+line_form options = record { columns = record { labels = options.labels; sizes = options.sizes }; texts = is_json options.form; clock = clock_of options }
 
 -- the details of versions: these columns, with these labels and the sizes that these words spell
 pub record AreDetails (columns : Columns) (texts words : List (List ℕ)) (details : Details) : Type 0 where
@@ -236,15 +251,17 @@ pub record AreDetails (columns : Columns) (texts words : List (List ℕ)) (detai
   pub labels_are : texts_of details.labels.items ≡ texts
   pub sizes_are : map decimal details.sizes.items ≡ words
 
--- what the form shows of versions with these rows and sizes beside their plans: what the rules keep, the listed numbers, the counts, the
--- bytes and their curves, and what the removals free
-pub record IsFound (options : ForecastOptions) (rows : List Row) (sizes : List ℕ) (plans : List Plan) (found : Found) : Type 0 where
+-- what the form shows of versions with these rows and details beside their plans: what the rules keep, the listed numbers, the counts, the
+-- bytes and their curves, what the removals free, what another tool keeps, and which policy is suggested
+pub record IsFound (options : ForecastOptions) (rows : List Row) (details : Details) (plans : List Plan) (found : Found) : Type 0 where
   pub judged : AreJudged options.rules.items rows options.moments.items found.judged.items
   pub listed : found.listed.items ≡ listed_numbers options.form plans
   pub counts : AreRows options.form (closings_of rows) plans found.counts.items
-  pub amounts : AreAmountsAt (amount_moments options.form options.sizes plans found.counts.items) (closings_of rows) sizes plans found.amounts.items
+  pub amounts : AreAmountsAt (amount_moments options.form options.sizes plans found.counts.items) (closings_of rows) details.sizes.items plans found.amounts.items
   pub bytes : AreDrawn options.form found.amounts.items found.bytes.items
   pub removals : AreFreed (has_removals options) plans found.removals.items
+  pub compared : AreCompared (compares options.form) details.labels.items plans found.judged.items options.others.items found.compared
+  pub suggested : IsSuggested (suggests options.form) options.keep (clock_of options) details.sizes.items (closings_of rows) options.moments.items found.suggested
 
 -- the text is a forecast in the form of the options: what becomes of the versions with these rows, labels and sizes under
 -- each policy, what each rule keeps, and which stay at each moment
@@ -255,7 +272,7 @@ pub record IsForecastText (options : ForecastOptions) (rows : List Row) (texts w
   pub detailed : AreDetails (line_form options).columns texts words details
   pub short : is_over options.form plans ≡ false
   pub found : Found
-  pub found_is : IsFound options rows details.sizes.items plans found
+  pub found_is : IsFound options rows details plans found
   pub text_is : text ≡ told_of options details plans found
 
 -- versions with these rows have too many moments for a table over time
@@ -264,6 +281,6 @@ pub record IsOver (options : ForecastOptions) (rows : List Row) : Type 0 where
   pub are : ArePlans options.policies.items (closings_of rows) options.moments.items plans
   pub long : is_over options.form plans ≡ true
 
--- a moment is given, or there is a policy or a rule
+-- a moment is given, there is a policy or a rule, or a policy is suggested
 abbrev pub AsksMuch : ForecastOptions → Type 0
-AsksMuch options = (options.moments.items ≢ []) ⊎ (options.policies.items ≢ []) ⊎ (options.rules.items ≢ [])
+AsksMuch options = (options.moments.items ≢ []) ⊎ (options.policies.items ≢ []) ⊎ (options.rules.items ≢ []) ⊎ (suggests options.form ≡ true)

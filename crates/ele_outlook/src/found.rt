@@ -5,11 +5,17 @@ ghost use Rattle.ele_rule_forecast.specs.Judged.{AreJudged};
 ghost use Rattle.ele_space.specs.Amounts.{AreAmountsAt};
 ghost use Rattle.ele_svg.specs.Drawing.{has_curves};
 ghost use Rattle.ele_outlook.specs.Reading.{IsFoundIn, MayLack};
-ghost use Rattle.ele_outlook.specs.Told.{AreDrawn, AreFreed, AreRows, amount_moments, has_removals, listed_numbers, moments_if, numbers_at, points_of, stayings_of};
+ghost use Rattle.ele_outlook.specs.Against.{compares};
+ghost use Rattle.ele_outlook.specs.Parts.{stayings_of};
+ghost use Rattle.ele_outlook.specs.Suggested.{IsSuggested, suggests};
+ghost use Rattle.ele_outlook.specs.Told.{AreDrawn, AreFreed, AreRows, amount_moments, clock_of, has_removals, listed_numbers, moments_if, numbers_at, points_of};
 
+use crate::against::compared_if;
 use crate::drawn::byte_rows;
 use crate::input::ReadLines;
-use crate::options::{ForecastOptions, Form};
+use crate::options::{ForecastOptions, Form, clock_of};
+use crate::suggested::suggested_if;
+use ele_against::Compared;
 use ele_forecast::{Closings, Forecast};
 use ele_forecast_forms::{Counts, counts_every};
 use ele_forecast_text::{Plan, Staying, listed_at};
@@ -17,6 +23,7 @@ use ele_moment::{Moment, NoMemory, VersionNo};
 use ele_peer_rules::Row;
 use ele_rule_forecast::{AskedRule, Judged, judge};
 use ele_space::{Amounts, Removals, amounts_at, moments_in, removals_of};
+use ele_suggest::Suggestion;
 use ele_svg::{curve_moments, drawing_counts};
 use std::alloc::Global;
 
@@ -35,6 +42,10 @@ pub struct Found {
     pub bytes: Vec<Counts>,
     /// What the removals under each policy free, at each moment that is asked about.
     pub removals: Vec<Removals>,
+    /// Which versions another tool keeps too, if the form compares them.
+    pub compared: Option<Compared>,
+    /// Which policy keeps what is asked, if the form suggests one.
+    pub suggested: Option<Suggestion>,
 }
 
 /// Returns what the form shows of versions beside their plans. `NoMemory` if memory is refused.
@@ -58,6 +69,15 @@ pub(crate) fn find(
     let amounts = summed(alloc, options, read, plans, counts.as_slice())?;
     let bytes = drawn(alloc, options.form, amounts.as_slice())?;
     let removals = freed(alloc, options, plans)?;
+    let compared = compared_if(
+        alloc,
+        compares(options.form),
+        read.details.labels.as_slice(),
+        plans,
+        judged.as_slice(),
+        options.others.as_slice(),
+    )?;
+    let suggested = suggested_in(alloc, options, read)?;
     Ok(Found {
         judged,
         listed,
@@ -65,7 +85,45 @@ pub(crate) fn find(
         amounts,
         bytes,
         removals,
+        compared,
+        suggested,
     })
+}
+
+// Whether the form compares what is kept with other labels.
+fn compares(form: Form) -> bool
+    ensures { result ≡ compares form }
+{
+    matches!(form, Form::Against(_))
+}
+
+// Whether the form suggests a policy.
+fn suggests(form: Form) -> bool
+    ensures { result ≡ suggests form }
+{
+    matches!(form, Form::Suggest(_))
+}
+
+// Returns the policy that is suggested for what was read, if the form suggests one.
+fn suggested_in(
+    alloc: Global,
+    options: &ForecastOptions,
+    read: &ReadLines,
+) -> Result<Option<Suggestion>, NoMemory>
+    ensures ok { IfOk result (IsSuggested (suggests options.now.form) options.now.keep
+        (clock_of options.now) read.now.details.sizes.items read.now.closings
+        options.now.moments.items) }
+    ensures err { OnErr result (suggests options.now.form ≡ true) }
+{
+    suggested_if(
+        alloc,
+        suggests(options.form),
+        &options.keep,
+        clock_of(options),
+        read.details.sizes.as_slice(),
+        &read.closings,
+        options.moments.as_slice(),
+    )
 }
 
 // Returns what the rules keep of the versions with these rows.
@@ -97,9 +155,14 @@ fn counted(
     match form {
         Form::Every(step) | Form::EveryCsv(step) => counts_every(alloc, step, closings, plans),
         Form::Drawing => drawing_counts(alloc, closings, plans),
-        Form::Table | Form::BytesDrawing | Form::Due | Form::Kept | Form::Json | Form::Csv => {
-            Ok(Vec::new(alloc))
-        }
+        Form::Table
+        | Form::BytesDrawing
+        | Form::Due
+        | Form::Kept
+        | Form::Json
+        | Form::Csv
+        | Form::Against(_)
+        | Form::Suggest(_) => Ok(Vec::new(alloc)),
     }
 }
 
@@ -142,9 +205,14 @@ fn amount_moments(
         Form::Every(_) => moments_if(alloc, options.sizes, counts),
         Form::EveryCsv(_) => moments_if(alloc, true, counts),
         Form::BytesDrawing => points_of(alloc, plans),
-        Form::Table | Form::Drawing | Form::Due | Form::Kept | Form::Json | Form::Csv => {
-            Ok(Vec::new(alloc))
-        }
+        Form::Table
+        | Form::Drawing
+        | Form::Due
+        | Form::Kept
+        | Form::Json
+        | Form::Csv
+        | Form::Against(_)
+        | Form::Suggest(_) => Ok(Vec::new(alloc)),
     }
 }
 
@@ -180,7 +248,9 @@ fn drawn(alloc: Global, form: Form, amounts: &[Amounts]) -> Result<Vec<Counts>, 
         | Form::Json
         | Form::Csv
         | Form::Every(_)
-        | Form::EveryCsv(_) => Ok(Vec::new(alloc)),
+        | Form::EveryCsv(_)
+        | Form::Against(_)
+        | Form::Suggest(_) => Ok(Vec::new(alloc)),
     }
 }
 
@@ -245,7 +315,9 @@ fn listed_of(
         | Form::Json
         | Form::Csv
         | Form::Every(_)
-        | Form::EveryCsv(_) => Ok(Vec::new(alloc)),
+        | Form::EveryCsv(_)
+        | Form::Against(_)
+        | Form::Suggest(_) => Ok(Vec::new(alloc)),
         Form::Due => listed_at(alloc, false, forecasts, staying),
         Form::Kept => listed_at(alloc, true, forecasts, staying),
     }

@@ -4,7 +4,8 @@ ghost use Rattle.std.specs.Io.KnownBytes.{Consumes, IsAtEnd};
 ghost use Rattle.memchr.specs.Find.{IsFirstByte, is_byte};
 ghost use Rattle.ele_lists.specs.Lists.{AllLater};
 ghost use Rattle.ele_outlook.specs.Reading.{AddsDetails, AddsFields, AddsLine, AddsWord, GivesUp, HaveRead, ReadsLines};
-ghost use Rattle.ele_outlook.specs.Told.{AreDetails, texts_of};
+ghost use Rattle.ele_outlook.specs.Parts.{texts_of};
+ghost use Rattle.ele_outlook.specs.Told.{AreDetails};
 
 use crate::fault::{BadLine, ForecastFault};
 use crate::fields::fields_of;

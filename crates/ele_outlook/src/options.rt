@@ -1,11 +1,23 @@
 //! The options of a forecast. A contract sees them as plain data.
 ghost use Rattle.std.specs.Prelude.{◌≡◌};
-ghost use Rattle.ele_outlook.specs.Told.{line_form};
+ghost use Rattle.ele_outlook.specs.Told.{clock_of, line_form};
 
 use ele_forecast_text::{AskedPolicy, Columns};
 use ele_moment::Moment;
 use ele_rule_forecast::AskedRule;
+use ele_suggest::Asked;
 use ele_tool_words::Offset;
+
+/// How an answer is written that has no other form.
+#[derive(Clone, Copy, PartialEq, Eq)]
+pub enum Layout {
+    /// Lines of words.
+    Table,
+    /// One JSON object.
+    Json,
+    /// A heading, and a row for each version or policy.
+    Csv,
+}
 
 /// The form of a forecast.
 #[derive(Clone, Copy, PartialEq, Eq)]
@@ -31,13 +43,19 @@ pub enum Form {
     Every(u64),
     /// The same as CSV.
     EveryCsv(u64),
+    /// Which versions are kept at the first of the moments, and which of them another tool keeps: those
+    /// that the first rule keeps, or without a rule the first policy.
+    Against(Layout),
+    /// Policies, and which of them keeps what is asked at the least cost, at the first of the moments or
+    /// else a second after the last closing.
+    Suggest(Layout),
 }
 
 /// The most policies that a forecast compares.
 pub const MOST_POLICIES: usize = 16;
 
 /// The options of a forecast: the policies and rules that it compares, the moments at which it lists
-/// the versions that stay, the fields of its input and the form of its output.
+/// the versions that stay, the fields of its input and the form of its output, and what it compares or suggests.
 #[derive(Drop)]
 pub struct ForecastOptions {
     pub policies: Vec<AskedPolicy>,
@@ -54,6 +72,10 @@ pub struct ForecastOptions {
     pub sizes: bool,
     /// The title of a drawing, in UTF-8. An empty one means no title.
     pub title: Vec<u8>,
+    /// The labels of the versions that another tool keeps, one a line. Only `Against` has these.
+    pub others: Vec<u8>,
+    /// What a suggested policy keeps. Only `Suggest` asks this.
+    pub keep: Asked,
     /// The form of the output. The lists `Due` and `Kept` are those of the first policy.
     pub form: Form,
 }
@@ -68,7 +90,7 @@ pub struct LineForm {
     pub clock: Offset,
 }
 
-/// Returns the fields that the lines of the input must have. Only JSON needs labels in UTF-8.
+/// Returns the fields that the lines of the input must have. Only JSON of versions needs labels in UTF-8.
 pub(crate) fn line_form(options: &ForecastOptions) -> LineForm
     ensures { result ≡ line_form options.now }
 {
@@ -78,6 +100,13 @@ pub(crate) fn line_form(options: &ForecastOptions) -> LineForm
             sizes: options.sizes,
         },
         texts: matches!(options.form, Form::Json),
-        clock: options.clock.unwrap_or(Offset::Ahead(0)),
+        clock: clock_of(options),
     }
+}
+
+/// Returns the clock of a time that names no offset: that of UTC, if none is given.
+pub(crate) fn clock_of(options: &ForecastOptions) -> Offset
+    ensures { result ≡ clock_of options.now }
+{
+    options.clock.unwrap_or(Offset::Ahead(0))
 }

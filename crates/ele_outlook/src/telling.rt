@@ -7,10 +7,12 @@ ghost use Rattle.ele_outlook.specs.Foretold.{Foretells, TellsForecast};
 ghost use Rattle.ele_outlook.specs.Reading.{IsOfForm, TellsRead};
 ghost use Rattle.ele_outlook.specs.Told.{freed_table, is_over, names_policies, plain_table, policy_line, removals_part, rules_part, told_csv, told_json, told_of, told_over_time, told_table};
 
+use crate::against::{put_against, word_here};
 use crate::fault::ForecastFault;
 use crate::found::{Found, find};
 use crate::input::{ReadLines, read_input, read_lines};
 use crate::options::{ForecastOptions, Form, line_form};
+use crate::suggested::put_suggested;
 use crate::unplaced::is_unplaced;
 use ele_forecast_forms::{is_too_long, put_compared, put_csv, put_json_members, put_over_time};
 use ele_forecast_text::{Details, Plan, plans_of, put_names, put_policy, put_table};
@@ -23,7 +25,8 @@ use std::io::{Read, Write};
 
 /// Reads the closings of a file to the end of the input: a time a line, then a tab and a size and a tab
 /// and a label if the options want these. Writes what becomes of the versions under each policy, and
-/// which stay at each moment, in the form of the options. Flushes the writer. The last line may lack
+/// which stay at each moment, in the form of the options; or which of them another tool keeps too, or
+/// which policy keeps what is asked. Flushes the writer. The last line may lack
 /// its line feed.
 ///
 /// Returns whether times that name no offset were read as UTC, since the options have no clock.
@@ -115,7 +118,9 @@ fn is_over(form: Form, plans: &[Plan]) -> bool
         | Form::Due
         | Form::Kept
         | Form::Json
-        | Form::Csv => false,
+        | Form::Csv
+        | Form::Against(_)
+        | Form::Suggest(_) => false,
     }
 }
 
@@ -180,6 +185,10 @@ fn put_told<W: Write>(
         Form::EveryCsv(_) => {
             put_amounts_csv(options.sizes, plans, found.amounts.as_slice(), printer);
         }
+        Form::Against(layout) => {
+            put_against(layout, details, word_here(plans, judged), &found.compared, printer);
+        }
+        Form::Suggest(layout) => put_suggested(layout, options.sizes, &found.suggested, printer),
     }
 }
 
