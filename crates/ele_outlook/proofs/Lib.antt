@@ -4,6 +4,8 @@ mod Known
 mod Detailed
 -- the lines of an input
 mod Lines
+-- the lines of another text
+mod OtherLines
 -- a line that is passed over
 mod Passed
 -- the first tab of a text

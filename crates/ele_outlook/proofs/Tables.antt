@@ -19,9 +19,7 @@ use Rattle.ele_rule_forecast.specs.RuledTable.{ruled_text}
 use Rattle.ele_rule_forecast.specs.declared.judged.AskedRule.{AskedRule}
 use Rattle.ele_rule_forecast.specs.declared.judged.Judged.{Judged}
 use Rattle.ele_forecast_forms.specs.Csv.{csv_text}
-use Rattle.ele_forecast_forms.specs.OverTime.{count_of, moments_every, moments_from}
 use Rattle.ele_forecast_forms.specs.declared.counts.Counts.{Counts}
-use Rattle.ele_forecast_text.specs.Reach.{first_of}
 use Rattle.ele_space.specs.Amounts.{AreAmountsAt}
 use Rattle.ele_outlook.specs.declared.options.Form.{Form}
 use Rattle.ele_outlook.specs.declared.options.Form.TheVariants.{Table, Drawing, BytesDrawing, Due, Kept, Json, Csv, Every, EveryCsv, Against, Suggest}

@@ -12,7 +12,6 @@ use Rattle.ele_forecast_text.specs.declared.label.Label.{Label}
 use Rattle.ele_forecast_text.specs.declared.plan.Plan.{Plan}
 use Rattle.ele_forecast_text.specs.declared.staying.Staying.{Staying}
 use Rattle.ele_rule_forecast.specs.declared.judged.Judged.{Judged}
-use Rattle.ele_rule_forecast.specs.declared.judged.Verdict.{Verdict}
 use Rattle.ele_outlook.specs.Input.{lines_of}
 use Rattle.ele_outlook.specs.Parts.{stayings_of, texts_of}
 use Rattle.ele_outlook.specs.declared.options.Form.{Form}

@@ -102,9 +102,10 @@ fn add_last(alloc: Global, rest: &[u8], mut labels: Vec<Label>) -> Result<Vec<La
     requires { IsFirstByte (is_byte 10) rest.now None }
     ensures { IfOk result (λ all. texts_of all.items ≡ texts_of labels.items ++ lines_of rest.now) }
 {
-    if !rest.is_empty() {
-        add_label(alloc, rest, &mut labels)?;
+    if rest.is_empty() {
+        return Ok(labels);
     }
+    add_label(alloc, rest, &mut labels)?;
     Ok(labels)
 }
 

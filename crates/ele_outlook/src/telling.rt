@@ -186,7 +186,13 @@ fn put_told<W: Write>(
             put_amounts_csv(options.sizes, plans, found.amounts.as_slice(), printer);
         }
         Form::Against(layout) => {
-            put_against(layout, details, word_here(plans, judged), &found.compared, printer);
+            put_against(
+                layout,
+                details,
+                word_here(plans, judged),
+                &found.compared,
+                printer,
+            );
         }
         Form::Suggest(layout) => put_suggested(layout, options.sizes, &found.suggested, printer),
     }
