@@ -96,7 +96,7 @@ enum elephant_code {
     ELEPHANT_ALREADY_MEMBER = 25,  /* the file is in the group already */
     ELEPHANT_NOT_MEMBER = 26,      /* the file isn't in the group */
     ELEPHANT_FULL = 27,            /* a limit is reached, for good; detail: which, an enum elephant_limit */
-    ELEPHANT_NOT_AHEAD = 41,       /* the end of a mark must be later than now, the moment of 'ahead' not earlier, nor the second of 'changes' than its first */
+    ELEPHANT_NOT_AHEAD = 41,       /* the end of a mark must be later than now, the moment of 'ahead' or 'expiring' not earlier, nor the second of 'changes' than its first */
 
     /* An argument is not valid. If several are not, the code is that of the first one. */
     ELEPHANT_BAD_NAME = 28,        /* a name has 1 to 64 bytes without /, @ and #, and isn't . or .. */

@@ -60,7 +60,7 @@ const char *elephant_code_text(int32_t code) {
     case 25: return "AlreadyMember: the file is in the group already";
     case 26: return "NotMember: the file isn't in the group";
     case 27: return "Full: a limit is reached, for good";
-    case 41: return "NotAhead: the end of a mark must be later than now, the moment of 'ahead' not earlier, nor the second of 'changes' than its first";
+    case 41: return "NotAhead: the end of a mark must be later than now, the moment of 'ahead' or 'expiring' not earlier, nor the second of 'changes' than its first";
     case 28: return "BadName: a name has 1 to 64 bytes without /, @ and #, and isn't . or ..";
     case 29: return "BadPath: a path begins with /, has no empty name and at most 32 names, and a number after #";
     case 30: return "BadMoment: no moment has this form, or it is too late";

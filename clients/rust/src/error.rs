@@ -162,7 +162,7 @@ errors! {
     NotPast = ELEPHANT_NOT_PAST, "the moment of a mark must be earlier than now";
     AlreadyMember = ELEPHANT_ALREADY_MEMBER, "the file is in the group already";
     NotMember = ELEPHANT_NOT_MEMBER, "the file isn't in the group";
-    NotAhead = ELEPHANT_NOT_AHEAD, "the end of a mark must be later than now, the moment of 'ahead' not earlier, nor the second of 'changes' than its first";
+    NotAhead = ELEPHANT_NOT_AHEAD, "the end of a mark must be later than now, the moment of 'ahead' or 'expiring' not earlier, nor the second of 'changes' than its first";
     BadName = ELEPHANT_BAD_NAME, "a name has 1 to 64 bytes without /, @ and #, and isn't . or ..";
     BadPath = ELEPHANT_BAD_PATH, "a path begins with /, has no empty name and at most 32 names, and a number after #";
     BadMoment = ELEPHANT_BAD_MOMENT, "no moment has this form, or it is too late";

@@ -16,7 +16,7 @@ MOST_DIGITS = 19
 # Lines that change nothing, and that no journal has.
 # Printed by tools/pages/surface --write: the questions, from ele_commands/src/command.rt and ele_model/specs/NothingChanges.antt.
 QUESTIONS = frozenset(
-    b"due groups list read restorable stat usage versions history trim ahead answers changes gone handles removals story why".split()
+    b"due groups list read restorable stat usage versions history trim ahead answers changes expiring gone handles removals story why".split()
 )
 # End of the questions.
 

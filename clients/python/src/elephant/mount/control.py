@@ -40,8 +40,8 @@ MOST_FOLDER = 100
 # Lines after which the tree may differ, and lines that change nothing.
 # Printed by tools/pages/surface --write: the lines, from ele_commands/src/command.rt and ele_model/specs/NothingChanges.antt.
 _ASK = frozenset((
-    "due", "groups", "list", "read", "restorable", "stat", "usage", "versions", "history", "trim", "ahead", "answers", "changes", "gone",
-    "handles", "removals", "story", "why",
+    "due", "groups", "list", "read", "restorable", "stat", "usage", "versions", "history", "trim", "ahead", "answers", "changes",
+    "expiring", "gone", "handles", "removals", "story", "why",
 ))
 _SHORT = frozenset(("clean", "default", "group", "mark", "pass", "policy", "unmark"))
 # End of the lines.

@@ -55,6 +55,12 @@ COMMANDS: dict[str, tuple[str, str, str]] = {
         "Sets the policy of files and directories that are made in P later. 'elephant help policies' explains POL. NotDirectory if P is a"
         " file.",
     ),
+    "expiring": (
+        "expiring M", "ok expiring K, then K lines - RIPE FILE NUMBER PATH UNTIL in order",
+        "Lists what 'ahead M' lists, with the path of each file: the one that leads to it now or, if none does, the last one that did, "
+        "and until when ('-' if it still leads there). 'expiring' of now is 'due' with paths. It needs the option --explain. NotAhead if "
+        "M is earlier than now.",
+    ),
     "group make": (
         "group make G", "ok done",
         "Makes an empty group. GroupExists if a group has the name.",
