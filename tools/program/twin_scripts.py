@@ -55,6 +55,10 @@ class Writer:
     def moment(self) -> int:
         return max(0, self.twin.now + self.rng.choice([1, 0, 0, -1, -1, -2, -3, -5, -8, -13]))
 
+    def later(self) -> int:
+        """A moment that is mostly later than now."""
+        return max(0, self.twin.now + self.rng.choice([-1, 0, 1, 2, 4, 9, 20]))
+
     def tagged(self, numbered: bool = True) -> str:
         kind = self.rng.randrange(3 if numbered else 2)
         return self.path() + ("", f"@{self.moment()}", f"#{self.rng.randint(0, 9)}")[kind]
@@ -141,7 +145,8 @@ class Writer:
             (2, lambda: "restorable"),
             (7, lambda: "due"),
             (8, lambda: f"why {self.held()}"),
-            (2, lambda: f"ahead {max(0, self.twin.now + rng.choice([-1, 0, 1, 2, 4, 9, 20]))}"),
+            (2, lambda: f"ahead {self.later()}"),
+            (3, lambda: f"expiring {self.later()}"),
             (2, lambda: rng.choice(["handles", "gone", "removals", "answers"])),
             (3, lambda: f"story {path() if rng.random() < 0.5 else self.new_path()}"),
             (4, self.changes),

@@ -248,6 +248,11 @@ class Twin:
             return [refusal(No("NotAhead"))]
         return listed("ahead", self.keys(int(moment)))
 
+    def ask_expiring(self, moment: str) -> Block:
+        if int(moment) < self.now:
+            return [refusal(No("NotAhead"))]
+        return listed("expiring", [(*it, last_name(self.names, it[1])) for it in self.keys(int(moment))])
+
     def ask_handles(self) -> Block:
         rows = []
         for handle, (file, version) in self.handles.items():

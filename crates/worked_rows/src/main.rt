@@ -197,7 +197,7 @@ const LIMITED: [(&str, LimitNumbers); 25] = [
 ];
 
 /// Scripts under the largest limits whose run explains.
-const EXPLAINED: [&str; 12] = [
+const EXPLAINED: [&str; 13] = [
     "explained_landmarks",
     "explained_policies",
     "explained_floors",
@@ -210,6 +210,7 @@ const EXPLAINED: [&str; 12] = [
     "explained_holds",
     "explained_changes",
     "explained_last_names",
+    "explained_expiring",
 ];
 
 /// What the script prints.
