@@ -24,8 +24,8 @@ SPAN = re.compile(r"\d{4}-\d\d-\d\d \d\d:\d\d:\d\d [+-]\d\d:\d\d")
 # Words of which lines are made up: most of them are wrong somewhere.
 FIRST = [
     "clock", "tick", "mkdir", "create", "link", "write", "truncate", "save", "revert", "restore", "policy", "default", "group make",
-    "group add", "group", "mark", "unmark", "read", "stat", "versions", "list", "due", "pass", "why", "ahead", "gone", "open", "open read",
-    "open write", "ls", "cat", "rm", "mv", "Create", "close",
+    "group add", "group", "mark", "unmark", "read", "stat", "versions", "list", "due", "pass", "why", "ahead", "expiring", "gone", "open",
+    "open read", "open write", "ls", "cat", "rm", "mv", "Create", "close",
 ]
 OTHERS = [
     "/", "/f", "/d/f", "f", "/f@5", "/f#2", "/f#", "/f@", "/f#02", "/f@x", "/a//b", "/..", "/" + "n" * 65, "/n" * 33, "g", "g/h", "g@h",

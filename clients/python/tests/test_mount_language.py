@@ -60,6 +60,7 @@ close 1
 policy /f safe:5
 due
 ahead {START + HOUR}
+expiring {START + HOUR}
 why /f
 why /f#2
 story /f

@@ -170,6 +170,14 @@ class Policies(Case):
         self.assertEqual(self.ask("ahead 2026-11-29 10:30"), "ok ahead 0\n")
         self.assertEqual(self.ask("ahead 2026-12-01").splitlines()[0], "ok ahead 2")
 
+    def test_expiring_takes_a_time_and_has_the_path(self) -> None:
+        self.save(b"f", b"one")
+        self.save(b"f", b"two")
+        self.ask("policy /f safe:1h")
+        self.assertEqual(self.ask("expiring 2026-11-29 10:30"), "ok expiring 0\n")
+        rows = self.ask("expiring 2026-12-01").splitlines()
+        self.assertEqual([rows[0], *(it.split()[2:] for it in rows[1:])], ["ok expiring 2", ["1", "1", "/f", "-"], ["1", "2", "/f", "-"]])
+
 
 class Undoing(Case):
     def held(self) -> bytes:

@@ -52,7 +52,7 @@ _TAKEN = {"undo": "a file or a folder, a moment or the number of a version, as '
 # Lines of the mount's own that change nothing.
 _LOOKS = frozenset(("changes", "soon"))
 # The place of the moment in lines that end with one.
-_OF_MOMENTS = {"unmark": 2, "ahead": 1}
+_OF_MOMENTS = {"unmark": 2, "ahead": 1, "expiring": 1}
 _MAKE = frozenset(("mkdir", "create", "link", "rename"))
 _OF_HANDLES = frozenset(("write", "truncate", "close", "abandon", "read"))
 # Lines that make a version of what a path names, and that may make the name. They are in no table of counts.

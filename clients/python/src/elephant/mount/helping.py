@@ -91,6 +91,11 @@ OWN = {
         (f"Lists the versions that may be removed at MOMENT if nothing else changes, as due does. {_MOMENT}",),
         ("ahead 2027-01-01",),
     ),
+    "expiring": Help(
+        ("expiring MOMENT",),
+        (f"Lists what ahead lists, with the path of each file or, if it has none now, its last path and until when. {_MOMENT}",),
+        ("expiring 2027-01-01",),
+    ),
     "soon": Help(
         ("soon", "soon MOMENT"),
         (f"Lists what goes within a week, or until MOMENT, if nothing else changes: when, the size, which version of which file, and why. "
@@ -176,8 +181,8 @@ OWN = {
 # Commands of the script language that a mount hasn't, and those that the list below has.
 NOT_HERE = frozenset(("clock", "tick", "open write", "write", "truncate", "abandon"))
 LISTED = frozenset((
-    "history", "policy", "default", "why", "due", "ahead", "clean", "group make", "group add", "mark", "unmark", "gone", "answers",
-    "changes", "handles", "removals", "trim", "usage",
+    "history", "policy", "default", "why", "due", "ahead", "expiring", "clean", "group make", "group add", "mark", "unmark", "gone",
+    "answers", "changes", "handles", "removals", "trim", "usage",
 ))
 LINES = """\
 elephant-mount --at FOLDER LINE sends one of these lines to a mounted folder,
@@ -198,7 +203,9 @@ and prints its answer. A MOMENT is a time as you type it: 'yesterday 15:00'.
                         the policy of new files in it
   why FILE 2            why version 2 stays, or since when it may go
   soon [MOMENT]         what goes within a week, or until then, and why
-  due, ahead MOMENT     the same for programs: what may be removed now or then
+  due, ahead MOMENT, expiring MOMENT
+                        the same for programs: what may be removed now or then,
+                        and then with paths
   clean all             remove all that is due now
   group make G, group add G FILE, mark G MOMENT [until MOMENT], unmark G MOMENT
                         keep what the files of a group held at a moment

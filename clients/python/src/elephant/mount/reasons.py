@@ -20,7 +20,7 @@ TAKES = {
     "restore": "P M", "note": "X", "policy": "P POL", "default": "P POL", "group make": "G", "group drop": "G", "group add": "G P",
     "group remove": "G P", "mark": "G M U", "unmark": "G M", "clean": "", "read": "TH", "stat": "T", "versions": "A", "list": "A",
     "restorable": "", "due": "", "usage": "", "groups": "", "pass": "N", "history": "", "trim": "",
-    "why": "T", "ahead": "M", "handles": "", "gone": "", "removals": "", "answers": "", "story": "P",
+    "why": "T", "ahead": "M", "expiring": "M", "handles": "", "gone": "", "removals": "", "answers": "", "story": "P",
 }
 _KINDS = {
     "N": "a number", "H": "a handle", "V": "a version", "M": "a moment", "U": "an end", "G": "a group", "P": "a path", "Q": "a path",
