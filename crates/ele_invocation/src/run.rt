@@ -36,7 +36,7 @@ const NUMBERS: &str = "Print the number of its line before each answer, and on\n
 
 const REMARKS: &str = "Skip lines that begin with `#`";
 
-const EXPLAIN: &str = "Answer `why`, `ahead`, `handles`, `gone`,\n\
+const EXPLAIN: &str = "Answer `why`, `ahead`, `expiring`, `handles`, `gone`,\n\
     `removals`, `answers`, `story` and `changes` too: see\n\
     `elephant help script`";
 
