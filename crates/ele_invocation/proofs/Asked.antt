@@ -13,7 +13,7 @@ use Rattle.ele_invocation.specs.declared.invocation.Invocation.TheVariants.{Run,
 pub run_refused : (rows : List Row) (asked : Invocation) → IsRefusal asked → ((n : ℕ) → ¬ AsksRun rows n) → IsRun rows asked
 run_refused rows (Run limits options) is none = absurd is
 run_refused rows (Storm plan) is none = absurd is
-run_refused rows (Forecast ask) is none = absurd is
+run_refused rows (Forecast ask others) is none = absurd is
 run_refused rows Evidence is none = absurd is
 run_refused rows Verify is none = absurd is
 run_refused rows (Help text) is none = absurd is

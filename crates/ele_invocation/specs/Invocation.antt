@@ -1,5 +1,5 @@
 -- What the program's words ask for.
-use Rattle.std.specs.Prelude.{ℕ, ◌≡◌, ◌≢◌, ◌⊎◌, Bool, true, false, List, [], ◌∷◌, Option, MatchBool, MatchOption, slice_get, unwrap_or, codes}
+use Rattle.std.specs.Prelude.{ℕ, ◌≡◌, ◌≢◌, ◌⊎◌, Bool, true, false, List, [], ◌∷◌, Option, MatchBool, MatchOption, option_map, slice_get, string_bytes, unwrap_or, codes}
 use Rattle.std.specs.Str.{bytes_eq}
 use Rattle.ele_help.specs.Topics.{has_help}
 use Rattle.ele_model.specs.Bounds.{largest_bounds}
@@ -10,7 +10,7 @@ use Rattle.ele_invocation.specs.Forecasts.{AsksForecast}
 use Rattle.ele_invocation.specs.Topics.{topic_in}
 use Rattle.ele_invocation.specs.declared.invocation.Invocation.{Invocation}
 use Rattle.ele_invocation.specs.declared.invocation.Invocation.TheVariants.{Run, Storm, Forecast, Evidence, Verify, Help, NotUnderstood, NoMemory}
-use Rattle.clap.specs.Words.{App, IsAmong, Kinds, Row, Text, fault_of, subcommand_of}
+use Rattle.clap.specs.Words.{App, IsAmong, Kinds, Row, Text, fault_of, first_of, subcommand_of}
 use Rattle.clap.specs.declared.error.kind.ErrorKind.{ErrorKind}
 use Rattle.clap.specs.declared.error.kind.ErrorKind.TheVariants.{DisplayHelp, DisplayVersion}
 
@@ -23,7 +23,7 @@ is_storm asked = false
 abbrev pub IsRefusal : Invocation → Type 0
 IsRefusal (Run limits options) = ⊥
 IsRefusal (Storm plan) = ⊥
-IsRefusal (Forecast ask) = ⊥
+IsRefusal (Forecast ask others) = ⊥
 IsRefusal Evidence = ⊥
 IsRefusal Verify = ⊥
 IsRefusal (Help text) = ⊥
@@ -45,9 +45,10 @@ abbrev pub IsStorm : List Row → Invocation → Type 0
 IsStorm rows (Storm plan) = AsksStorm rows plan
 IsStorm rows asked = Refuses (AsksStorm rows) asked
 
--- the forecast that the matches ask for where a clock shows now; or a refusal if they ask for none, or there is no memory for its lists
+-- the forecast that the matches ask for where a clock shows now, and the name of the file with the labels of another tool; or a refusal if
+-- they ask for none, or there is no memory for its lists
 abbrev pub IsForecast : Option ℕ → List Row → Invocation → Type 0
-IsForecast now rows (Forecast ask) = AsksForecast now rows ask
+IsForecast now rows (Forecast ask others) = AsksForecast now rows ask × (option_map string_bytes others ≡ first_of (codes "against") rows)
 IsForecast now rows NoMemory = Unit {0}
 IsForecast now rows asked = Refuses (AsksForecast now rows) asked
 

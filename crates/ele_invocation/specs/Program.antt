@@ -42,8 +42,17 @@ abbrev pub form_rules : List Rule
 form_rules = flag_rule (codes "labels") ∷ flag_rule (codes "sizes") ∷ option_rule (codes "list") ∷ flag_rule (codes "svg")
     ∷ option_rule (codes "title") ∷ flag_rule (codes "json") ∷ flag_rule (codes "csv") ∷ []
 
+-- what is compared with the versions that stay, and what a suggested policy is to keep
+abbrev pub answer_rules : List Rule
+answer_rules = option_rule (codes "against") ∷ flag_rule (codes "suggest") ∷ option_rule (codes "keep") ∷ option_rule (codes "most-versions")
+    ∷ option_rule (codes "most-bytes") ∷ []
+
+-- a forecast that gives no answer
+abbrev pub plain_shape : Shape
+plain_shape = command_shape (codes "forecast") (asked_rules ++ form_rules)
+
 abbrev pub forecast_shape : Shape
-forecast_shape = command_shape (codes "forecast") (asked_rules ++ form_rules)
+forecast_shape = command_shape (codes "forecast") (asked_rules ++ (form_rules ++ answer_rules))
 
 abbrev pub evidence_shape : Shape
 evidence_shape = command_shape (codes "evidence") []

@@ -1,11 +1,12 @@
 //! The arguments of a forecast.
-ghost use Rattle.std.specs.Prelude.{◌≡◌, IfOk, codes};
+ghost use Rattle.std.specs.Prelude.{◌≡◌, IfOk, codes, option_map, string_bytes};
 ghost use Rattle.ele_invocation.specs.Built.{HasShape};
 ghost use Rattle.ele_invocation.specs.Invocation.{IsForecast};
-ghost use Rattle.ele_invocation.specs.Program.{asked_rules, command_shape, forecast_shape};
-ghost use Rattle.clap.specs.Words.{found_of, rows_of};
+ghost use Rattle.ele_invocation.specs.Program.{asked_rules, command_shape, forecast_shape, plain_shape};
+ghost use Rattle.clap.specs.Words.{first_of, found_of, rows_of};
 
 use crate::invocation::{Invocation, command_of, flag, not_understood, option};
+use crate::matches::value_of;
 use crate::reading::{Unread, read_forecast};
 use crate::rules::bad_rule;
 use clap::{Arg, ArgAction, ArgMatches, Command};
@@ -62,6 +63,23 @@ const LIST: &str = "Print only the versions that are `due` or `kept` at the\n\
 const RULE: &str = "Also print what a rule of another tool keeps, beside\n\
     the policies; can be given several times";
 
+const AGAINST: &str = "Print which versions that stay at the moment of --at\n\
+    another tool keeps too, and which only one of the two;\n\
+    FILE has the labels that it keeps, one a line. Takes\n\
+    --labels, and one --policy or one --rule";
+
+const SUGGEST: &str = "Print which policies keep what --keep asks, and which of\n\
+    them keeps the fewest bytes: a second after the last\n\
+    time, or at the moment of --at";
+
+const KEEP: &str = "Ask for a version of each of these periods until an age,\n\
+    as 7d:all,90d:daily,5y:monthly; also hourly, weekly and\n\
+    yearly";
+
+const MOST_VERSIONS: &str = "Ask for N versions at most";
+
+const MOST_BYTES: &str = "Ask for N bytes at most";
+
 const OFFSET: &str = "Read times without an offset by a clock of this one, as\n\
     +05:30";
 
@@ -83,9 +101,9 @@ fn asked<'a>(alloc: Global) -> Result<Command<'a>, AllocError>
         .arg(option(alloc, "offset", "OFFSET", OFFSET))
 }
 
-/// Returns the arguments of a forecast, as clap reads them.
-pub(crate) fn forecast<'a>(alloc: Global) -> Result<Command<'a>, AllocError>
-    ensures { IfOk result (HasShape forecast_shape) }
+// Returns the command with these, the fields of its input and its form.
+fn plain_forecast<'a>(alloc: Global) -> Result<Command<'a>, AllocError>
+    ensures { IfOk result (HasShape plain_shape) }
 {
     asked(alloc)?
         .arg(flag(alloc, "labels", LABELS))?
@@ -97,6 +115,29 @@ pub(crate) fn forecast<'a>(alloc: Global) -> Result<Command<'a>, AllocError>
         .arg(flag(alloc, "csv", CSV))
 }
 
+/// Returns the arguments of a forecast, as clap reads them.
+pub(crate) fn forecast<'a>(alloc: Global) -> Result<Command<'a>, AllocError>
+    ensures { IfOk result (HasShape forecast_shape) }
+{
+    plain_forecast(alloc)?
+        .arg(option(alloc, "against", "FILE", AGAINST))?
+        .arg(flag(alloc, "suggest", SUGGEST))?
+        .arg(option(alloc, "keep", "SPANS", KEEP))?
+        .arg(option(alloc, "most-versions", "N", MOST_VERSIONS))?
+        .arg(option(alloc, "most-bytes", "N", MOST_BYTES))
+}
+
+// Returns the name of the file with the labels of another tool, if there is one.
+fn others_in(alloc: Global, forecast: &ArgMatches) -> Result<Option<String>, AllocError>
+    ensures { IfOk result (λ others. option_map string_bytes others
+        ≡ first_of (codes "against") (rows_of (found_of forecast.now))) }
+{
+    match value_of(forecast, "against") {
+        Some(name) => Ok(Some(String::from_str(alloc, name)?)),
+        None => Ok(None),
+    }
+}
+
 /// Returns what the arguments of a forecast ask for.
 pub(crate) fn asked_forecast(
     alloc: Global,
@@ -106,7 +147,10 @@ pub(crate) fn asked_forecast(
     ensures { IsForecast now (rows_of (found_of forecast.now)) result }
 {
     match read_forecast(alloc, now, forecast) {
-        Ok(ask) => Invocation::Forecast(ask),
+        Ok(ask) => match others_in(alloc, forecast) {
+            Ok(others) => Invocation::Forecast(ask, others),
+            Err(_) => Invocation::NoMemory,
+        },
         Err(Unread::Because(why)) => not_understood(alloc, why),
         Err(Unread::BadRule(fault)) => bad_rule(alloc, fault),
         Err(Unread::NoMemory) => Invocation::NoMemory,

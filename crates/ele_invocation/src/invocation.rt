@@ -53,8 +53,9 @@ pub enum Invocation {
     Run(Limits, RunOptions),
     /// A storm over a new core with the largest limits, and its audit.
     Storm(StormPlan),
-    /// A forecast of the closings on standard input.
-    Forecast(ForecastOptions),
+    /// A forecast of the closings on standard input, and the name of the file with the labels that another tool
+    /// keeps. These labels aren't in the options yet.
+    Forecast(ForecastOptions, Option<String>),
     /// The evidence of the history that the script on standard input makes, under the largest limits.
     Evidence,
     /// Whether the text on standard input is the evidence of such a history.

@@ -5,6 +5,7 @@
 mod evidence;
 mod forecast;
 mod invocation;
+mod keeping;
 mod matches;
 mod reading;
 mod rules;

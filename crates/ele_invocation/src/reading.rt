@@ -5,6 +5,7 @@ ghost use Rattle.std.specs.Prelude.{
   ◌↔◌,
   ◌≤◌,
   ◌==◌,
+  ◌&&◌,
   ◌||◌,
   [],
   IfErr,
@@ -18,10 +19,13 @@ ghost use Rattle.std.specs.Prelude.{
   ℕ,
   codes,
   map,
+  not,
   true,
   unwrap_or,
 };
 ghost use Rattle.std.specs.List.{AllZip};
+ghost use Rattle.ele_outlook.specs.Against.{compares};
+ghost use Rattle.ele_outlook.specs.Suggested.{suggests};
 ghost use Rattle.ele_outlook.specs.declared.options.Form.{Form};
 ghost use Rattle.ele_invocation.specs.Forecasts.{
   AsksForecast,
@@ -33,10 +37,13 @@ ghost use Rattle.ele_invocation.specs.Forecasts.{
   IsNamed,
   IsOverTime,
   IsPlain,
+  IsPlainForm,
   SpellsAt,
+  answer_of,
   drawing_of,
   fits,
   flagged_form,
+  has_bounds,
   over_time,
   suits,
   takes_labels,
@@ -44,15 +51,17 @@ ghost use Rattle.ele_invocation.specs.Forecasts.{
   takes_sizes,
   takes_title,
 };
+ghost use Rattle.ele_invocation.specs.Matches.{is_given};
 ghost use Rattle.ele_invocation.specs.Unread.{NoneAsks};
 ghost use Rattle.ele_invocation.specs.declared.reading.Unread.TheVariants as unread;
 ghost use Rattle.clap.specs.Words.{first_of, found_of, rows_of};
 
+use crate::keeping::keep_in;
 use crate::matches::{is_on, value_of, values_of};
 use crate::rules::{check_labels, clock_in, policy_words, rules_in};
 use clap::ArgMatches;
 use ele_moment::Moment;
-use ele_outlook::{AskedPolicy, ForecastOptions, Form, MOST_POLICIES};
+use ele_outlook::{AskedPolicy, ForecastOptions, Form, Layout, MOST_POLICIES};
 use ele_peer_rules::RuleFault;
 use ele_tool_words::{read_length, read_policy, read_time};
 use ele_typed_words::{PolicyReason, policy_reason, read_when};
@@ -117,10 +126,31 @@ const TWO_FORMS: &str =
     with --csv\n\n\
     For more information, try 'elephant forecast --help'.\n";
 
+const TWO_ANSWERS: &str = "error: --against and --suggest exclude each other, and --every, --list \
+    and --svg\n\n\
+    For more information, try 'elephant forecast --help'.\n";
+
+const BAD_AGAINST: &str = "error: --against takes one --at, and one --policy or one --rule\n\n\
+    For more information, try 'elephant forecast --help'.\n";
+
+const BAD_SUGGEST: &str = "error: --suggest takes no --policy, no --rule and at most one --at\n\n\
+    For more information, try 'elephant forecast --help'.\n";
+
+const NO_COMMON_LABELS: &str =
+    "error: --against takes --labels: it compares the labels of the versions with those in \
+    the file\n\n\
+    For more information, try 'elephant forecast --help'.\n";
+
+const NO_KEEP: &str = "error: --suggest takes --keep, as 7d:all,90d:daily,5y:monthly\n\n\
+    For more information, try 'elephant forecast --help'.\n";
+
+const BAD_KEPT: &str = "error: --keep, --most-versions and --most-bytes are for --suggest\n\n\
+    For more information, try 'elephant forecast --help'.\n";
+
 const NO_POLICY: &str = "error: --policy or --rule is missing\n\n\
     For more information, try 'elephant forecast --help'.\n";
 
-const BAD_FORM: &str = "error: --rule is for the table, --json and --csv\n\n\
+const BAD_FORM: &str = "error: --rule is for the table, --json, --csv and --against\n\n\
     For more information, try 'elephant forecast --help'.\n";
 
 const BAD_EVERY: &str = "error: --every takes a length as 3600, 90m, 7d or 1y, and no --at\n\n\
@@ -157,6 +187,40 @@ impl<T: Drop> From<AllocFailed<T>> for Unread {
 fn form_in(forecast: &ArgMatches) -> Result<Form, Unread>
     ensures found { IfOk result (IsForm (rows_of (found_of forecast.now))) }
     ensures only { (form : Form) → IsForm (rows_of (found_of forecast.now)) form
+        → result ≡ Ok form }
+{
+    let against = value_of(forecast, "against").is_some();
+    let suggest = is_on(forecast, "suggest");
+    let plain = plain_form_in(forecast)?;
+    match answer_of(against, suggest, plain) {
+        Some(form) => Ok(form),
+        None => Err(Unread::Because(TWO_ANSWERS)),
+    }
+}
+
+// Returns the form, or an answer in its layout.
+fn answer_of(against: bool, suggest: bool, form: Form) -> Option<Form>
+    ensures { result ≡ answer_of against suggest form }
+{
+    let layout = match form {
+        Form::Table => Layout::Table,
+        Form::Json => Layout::Json,
+        Form::Csv => Layout::Csv,
+        _ if against || suggest => return None,
+        _ => return Some(form),
+    };
+    match (against, suggest) {
+        (false, false) => Some(form),
+        (true, false) => Some(Form::Against(layout)),
+        (false, true) => Some(Form::Suggest(layout)),
+        (true, true) => None,
+    }
+}
+
+// Returns the form that is asked for beside no answer.
+fn plain_form_in(forecast: &ArgMatches) -> Result<Form, Unread>
+    ensures found { IfOk result (IsPlainForm (rows_of (found_of forecast.now))) }
+    ensures only { (form : Form) → IsPlainForm (rows_of (found_of forecast.now)) form
         → result ≡ Ok form }
 {
     let svg = is_on(forecast, "svg");
@@ -250,8 +314,21 @@ fn check_counts(form: Form, policies: usize, moments: usize, rules: usize) -> Re
         }
         Form::Every(_) | Form::EveryCsv(_) if moments > 0 => Err(Unread::Because(BAD_EVERY)),
         Form::Csv if moments > 0 && rules == 0 => Err(Unread::Because(BAD_CSV)),
+        Form::Against(_) if moments != 1 || !is_one(policies, rules) => {
+            Err(Unread::Because(BAD_AGAINST))
+        }
+        Form::Suggest(_) if policies > 0 || rules > 0 || moments > 1 => {
+            Err(Unread::Because(BAD_SUGGEST))
+        }
         _ => Ok(()),
     }
+}
+
+// Whether there is one policy and no rule, or one rule and no policy.
+fn is_one(policies: usize, rules: usize) -> bool
+    ensures { result ≡ (((policies == 1) && (rules == 0)) || ((policies == 0) && (rules == 1))) }
+{
+    policies == 1 && rules == 0 || policies == 0 && rules == 1
 }
 
 // Refuses a file among the arguments.
@@ -287,7 +364,11 @@ fn takes_labels(form: Form) -> bool
 {
     !matches!(
         form,
-        Form::Drawing | Form::BytesDrawing | Form::Every(_) | Form::EveryCsv(_)
+        Form::Drawing
+            | Form::BytesDrawing
+            | Form::Every(_)
+            | Form::EveryCsv(_)
+            | Form::Suggest(_)
     )
 }
 
@@ -322,7 +403,41 @@ fn check_fit(
     check_counts(form, policies, moments, rules)?;
     check_rules(form, rules)?;
     check_fields(form, labels, sizes, titled)?;
+    check_compared(form, labels)?;
+    check_kept(forecast, form)?;
     Ok(())
+}
+
+// Refuses a comparison of versions without labels.
+fn check_compared(form: Form, labels: bool) -> Result<(), Unread>
+    ensures { IsOk result ↔ ((not (compares form) || labels) ≡ true) }
+{
+    match form {
+        Form::Against(_) if !labels => Err(Unread::Because(NO_COMMON_LABELS)),
+        _ => Ok(()),
+    }
+}
+
+// Refuses a suggestion that doesn't say what is kept, and what is kept for another form.
+fn check_kept(forecast: &ArgMatches, form: Form) -> Result<(), Unread>
+    ensures { IsOk result ↔ ((is_given (codes "keep") (rows_of (found_of forecast.now)) ≡ suggests form)
+        × (fits (suggests form) (has_bounds (rows_of (found_of forecast.now))) ≡ true)) }
+{
+    let asks = value_of(forecast, "keep").is_some();
+    let bounded = has_bounds(forecast);
+    match form {
+        Form::Suggest(_) if asks => Ok(()),
+        Form::Suggest(_) => Err(Unread::Because(NO_KEEP)),
+        _ if asks || bounded => Err(Unread::Because(BAD_KEPT)),
+        _ => Ok(()),
+    }
+}
+
+// Whether a suggested policy has bounds.
+fn has_bounds(forecast: &ArgMatches) -> bool
+    ensures { result ≡ has_bounds (rows_of (found_of forecast.now)) }
+{
+    value_of(forecast, "most-versions").is_some() || value_of(forecast, "most-bytes").is_some()
 }
 
 // Refuses rules for a form that has none.
@@ -330,7 +445,7 @@ fn check_rules(form: Form, rules: usize) -> Result<(), Unread>
     ensures { IsOk result ↔ ((takes_rules form || (rules == 0)) ≡ true) }
 {
     match form {
-        Form::Table | Form::Json | Form::Csv => Ok(()),
+        Form::Table | Form::Json | Form::Csv | Form::Against(_) => Ok(()),
         _ if rules == 0 => Ok(()),
         _ => Err(Unread::Because(BAD_FORM)),
     }
@@ -455,11 +570,13 @@ pub(crate) fn read_forecast(
     let form = form_in(forecast)?;
     let names = values_of(forecast, "rule").unwrap_or(&[]);
     let alone = ["all"];
-    let Some(words) = policy_words(names, values_of(forecast, "policy"), &alone) else {
+    let given = values_of(forecast, "policy");
+    let Some(words) = policy_words(is_on(forecast, "suggest"), names, given, &alone) else {
         return Err(Unread::Because(NO_POLICY));
     };
     let times = values_of(forecast, "at").unwrap_or(&[]);
-    if let Err(why) = check_fit(forecast, form, words.len(), times.len(), names.len()) {
+    let count = given.unwrap_or(&[]).len();
+    if let Err(why) = check_fit(forecast, form, count, times.len(), names.len()) {
         return Err(why);
     }
     check_labels(is_on(forecast, "labels"), names)?;
@@ -480,6 +597,10 @@ pub(crate) fn read_forecast(
         Ok(clock) => clock,
         Err(why) => return Err(why),
     };
+    let keep = match keep_in(forecast) {
+        Ok(keep) => keep,
+        Err(why) => return Err(why),
+    };
     Ok(ForecastOptions {
         policies,
         named: is_named(words),
@@ -489,6 +610,8 @@ pub(crate) fn read_forecast(
         labels: is_on(forecast, "labels"),
         sizes: is_on(forecast, "sizes"),
         title,
+        others: Vec::new(alloc),
+        keep,
         form,
     })
 }

@@ -25,19 +25,21 @@ const NO_LABELS: &str =
     "error: a rule of sanoid takes --labels, which are the names of snapshots\n\n\
     For more information, try 'elephant forecast --help'.\n";
 
-/// Returns the words of policies. Beside rules alone they are these.
+/// Returns the words of policies. Beside rules alone they are these, and a suggestion has none.
 pub(crate) fn policy_words<'w>(
+    suggested: bool,
     rules: &[&str],
     given: Option<&'w [&'w str]>,
     alone: &'w [&'w str],
 ) -> Option<&'w [&'w str]>
     requires { map (λ word. word.now) alone.now ≡ codes "all" ∷ [] }
     ensures { option_map (λ words. map (λ word. word.now) words.now) result
-        ≡ policies_beside (map (λ word. word.now) rules.now)
+        ≡ policies_beside suggested (map (λ word. word.now) rules.now)
         (option_map (λ words. map (λ word. word.now) words.now) given.entry) }
 {
     match given {
         Some(words) => Some(words),
+        None if suggested => Some(&[]),
         None => match rules {
             [] => None,
             [_, ..] => Some(alone),
