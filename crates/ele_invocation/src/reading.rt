@@ -108,8 +108,8 @@ const BAD_CSV: &str = "error: --csv takes --at only with --rule: the table and -
     stays at a moment\n\n\
     For more information, try 'elephant forecast --help'.\n";
 
-const BAD_LABELS: &str = "error: --labels is for the table, --list, --json and --csv: leave it and \
-    the labels out\n\n\
+const BAD_LABELS: &str = "error: --labels is for the table, --list, --json, --csv and --against: \
+    leave it and the labels out\n\n\
     For more information, try 'elephant forecast --help'.\n";
 
 const BAD_SIZES: &str = "error: --sizes is for all forms but --list: leave it and the sizes out\n\n\

@@ -10,7 +10,7 @@ pub ends_alone : (asked : Invocation) (watched : Bool) (input rest old new shown
     → EndsWith asked watched input rest old new shown shown before after status
 ends_alone (invocation.Run limits options) watched input rest old new shown before after status ends = (Keeps-refl _, ends)
 ends_alone (invocation.Storm plan) watched input rest old new shown before after status ends = absurd ends
-ends_alone (invocation.Forecast ask) watched input rest old new shown before after status ends = (Keeps-refl _, ends)
+ends_alone (invocation.Forecast ask file) watched input rest old new shown before after status ends = (Keeps-refl _, ends)
 ends_alone invocation.Evidence watched input rest old new shown before after status ends = (Keeps-refl _, ends)
 ends_alone invocation.Verify watched input rest old new shown before after status ends = (Keeps-refl _, ends)
 ends_alone (invocation.Help text) watched input rest old new shown before after status ends = (Keeps-refl _, ends)

@@ -20,7 +20,7 @@ EndsAlone (invocation.Run limits options) input rest old new before after status
     RunEnds (begun options (fresh limits) before) input rest old new after status
 -- a storm needs threads
 EndsAlone (invocation.Storm plan) input rest old new before after status = ⊥
-EndsAlone (invocation.Forecast ask) input rest old new before after status = ForecastEnds ask input rest old new before after status
+EndsAlone (invocation.Forecast ask file) input rest old new before after status = ForecastEnds ask input rest old new before after status
 EndsAlone invocation.Evidence input rest old new before after status = EvidenceEnds input rest old new before after status
 EndsAlone invocation.Verify input rest old new before after status = VerifyEnds input rest old new before after status
 EndsAlone (invocation.Help text) input rest old new before after status =

@@ -1,6 +1,7 @@
 pub mod Ends
 pub mod Evidence
 pub mod Forecasts
+pub mod Labels
 pub mod Progress
 pub mod RunEnds
 pub mod Status

@@ -69,8 +69,8 @@ pub(crate) fn run_verify<C: Step, R: Read, W: Write, E: Write>(
     }
 }
 
-// Reads all that the reader gives.
-fn read_all<R: Read>(alloc: Global, reader: &mut R) -> Result<Vec<u8>, ShellFault>
+/// Reads all that the reader gives.
+pub(crate) fn read_all<R: Read>(alloc: Global, reader: &mut R) -> Result<Vec<u8>, ShellFault>
     ensures ok { IfOk result (λ text. Consumes (R.remaining reader.old) (R.remaining reader.new)
         text.items) }
     ensures end { OnOk result (IsAtEnd (R.remaining reader.new)) }

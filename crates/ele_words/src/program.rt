@@ -154,7 +154,7 @@ pub fn dispatch_alone<C: Explain + FromFlat, R: Read + LastError, W: Write + Las
             tell_run(alloc, *options, &ran, why, errors)
         }
         Invocation::Storm(_) => unreachable!(),
-        Invocation::Forecast(ask) => run_forecast(alloc, ask, reader, writer, errors),
+        Invocation::Forecast(ask, _) => run_forecast(alloc, ask, reader, writer, errors),
         Invocation::Evidence => run_evidence::<C, R, W, E>(alloc, reader, writer, errors),
         Invocation::Verify => run_verify::<C, R, W, E>(alloc, reader, writer, errors),
         Invocation::Help(text) => tell(write_text(text.as_str(), writer).err(), errors),

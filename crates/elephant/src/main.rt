@@ -8,9 +8,10 @@ use ele_core::Core;
 use ele_model::Limits;
 use ele_output::Printer;
 use ele_words::{
-    Cleared, Counted, Invocation, KeepsError, Meter, dispatch, now, run_typed, unreadable_args,
-    words,
+    Cleared, Counted, Invocation, KeepsError, Meter, dispatch, labels_file, now, run_typed,
+    unreadable_args, unreadable_labels, with_labels, words,
 };
+use std::fs::File;
 use std::io::{IsTerminal, Write};
 use std::process::ExitCode;
 
@@ -29,6 +30,17 @@ fn asked_for(rt: &HostRuntime) -> Invocation {
             Err(_) => Invocation::NoMemory,
         },
         Err(error) => unreadable_args(rt.alloc(), error.kind()),
+    }
+}
+
+// What is asked for, with the labels of another tool if a file of these is named.
+fn with_file(rt: &HostRuntime, invocation: Invocation) -> Invocation {
+    let Some(name) = labels_file(&invocation) else {
+        return invocation;
+    };
+    match File::open(rt, name) {
+        Ok(mut file) => with_labels(rt.alloc(), invocation, &mut file),
+        Err(_) => unreadable_labels(rt.alloc(), name),
     }
 }
 
@@ -73,7 +85,10 @@ fn greet(rt: &HostRuntime, invocation: &Invocation, is_dialog: bool) {
 fn reads_lines(invocation: &Invocation) -> bool {
     matches!(
         invocation,
-        Invocation::Run(_, _) | Invocation::Forecast(_) | Invocation::Evidence | Invocation::Verify
+        Invocation::Run(_, _)
+            | Invocation::Forecast(_, _)
+            | Invocation::Evidence
+            | Invocation::Verify
     )
 }
 
@@ -83,7 +98,7 @@ fn is_metered(rt: &HostRuntime, invocation: &Invocation) -> bool {
 }
 
 fn main(rt: HostRuntime) -> ExitCode {
-    let mut invocation = asked_for(&rt);
+    let mut invocation = with_file(&rt, asked_for(&rt));
     let dialog = dialog_limits(&rt, &invocation);
     greet(&rt, &invocation, dialog.is_some());
     if is_typed(&rt) {
