@@ -155,7 +155,7 @@ fits taken given = taken || not given
 
 -- a suggested policy may have bounds
 abbrev pub has_bounds : List Row → Bool
-has_bounds rows = is_given (codes "most-versions") rows || is_given (codes "most-bytes") rows
+has_bounds rows = is_given (codes "versions") rows || is_given (codes "bytes") rows
 
 -- no file is given, and the form takes so many policies, moments and rules, and each option that is given; a comparison has labels, and a
 -- suggestion says what is kept
@@ -212,8 +212,8 @@ IsBound (Some word) (Some most) = SpellsNumber word most
 -- what a suggested policy is to keep: of each of these spans, and no more than these bounds
 pub record AsksKept (rows : List Row) (keep : Asked) : Type 0 where
   pub spans : AreSpans (first_of (codes "keep") rows) keep.spans.items
-  pub versions : IsBound (first_of (codes "most-versions") rows) keep.most_versions
-  pub bytes : IsBound (first_of (codes "most-bytes") rows) keep.most_bytes
+  pub versions : IsBound (first_of (codes "versions") rows) keep.most_versions
+  pub bytes : IsBound (first_of (codes "bytes") rows) keep.most_bytes
 
 -- whether some word is one that a script refuses
 abbrev pub IsNamed : List Text → Bool → Type 0

@@ -44,8 +44,8 @@ form_rules = flag_rule (codes "labels") ∷ flag_rule (codes "sizes") ∷ option
 
 -- what is compared with the versions that stay, and what a suggested policy is to keep
 abbrev pub answer_rules : List Rule
-answer_rules = option_rule (codes "against") ∷ flag_rule (codes "suggest") ∷ option_rule (codes "keep") ∷ option_rule (codes "most-versions")
-    ∷ option_rule (codes "most-bytes") ∷ []
+answer_rules = option_rule (codes "against") ∷ flag_rule (codes "suggest") ∷ option_rule (codes "keep") ∷ option_rule (codes "versions")
+    ∷ option_rule (codes "bytes") ∷ []
 
 -- a forecast that gives no answer
 abbrev pub plain_shape : Shape

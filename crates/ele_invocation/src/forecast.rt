@@ -63,22 +63,21 @@ const LIST: &str = "Print only the versions that are `due` or `kept` at the\n\
 const RULE: &str = "Also print what a rule of another tool keeps, beside\n\
     the policies; can be given several times";
 
-const AGAINST: &str = "Print which versions that stay at the moment of --at\n\
-    another tool keeps too, and which only one of the two;\n\
-    FILE has the labels that it keeps, one a line. Takes\n\
-    --labels, and one --policy or one --rule";
+const AGAINST: &str = "Compare what stays at the moment of --at with what\n\
+    another tool keeps: FILE has its labels, one a line.\n\
+    Takes --labels, and one --policy or one --rule";
 
-const SUGGEST: &str = "Print which policies keep what --keep asks, and which of\n\
-    them keeps the fewest bytes: a second after the last\n\
-    time, or at the moment of --at";
+const SUGGEST: &str = "Print which policies keep what --keep asks, and which\n\
+    of them keeps the fewest bytes: at the moment of --at,\n\
+    or a second after the last time";
 
-const KEEP: &str = "Ask for a version of each of these periods until an age,\n\
-    as 7d:all,90d:daily,5y:monthly; also hourly, weekly and\n\
-    yearly";
+const KEEP: &str = "Suggest a policy that keeps a version of each of these\n\
+    periods until an age, as 7d:all,90d:daily,5y:monthly;\n\
+    also hourly, weekly, yearly";
 
-const MOST_VERSIONS: &str = "Ask for N versions at most";
+const VERSIONS: &str = "Suggest one that keeps N versions at most";
 
-const MOST_BYTES: &str = "Ask for N bytes at most";
+const BYTES: &str = "Suggest one that keeps N bytes at most";
 
 const OFFSET: &str = "Read times without an offset by a clock of this one, as\n\
     +05:30";
@@ -123,8 +122,8 @@ pub(crate) fn forecast<'a>(alloc: Global) -> Result<Command<'a>, AllocError>
         .arg(option(alloc, "against", "FILE", AGAINST))?
         .arg(flag(alloc, "suggest", SUGGEST))?
         .arg(option(alloc, "keep", "SPANS", KEEP))?
-        .arg(option(alloc, "most-versions", "N", MOST_VERSIONS))?
-        .arg(option(alloc, "most-bytes", "N", MOST_BYTES))
+        .arg(option(alloc, "versions", "N", VERSIONS))?
+        .arg(option(alloc, "bytes", "N", BYTES))
 }
 
 // Returns the name of the file with the labels of another tool, if there is one.

@@ -20,7 +20,7 @@ const BAD_SPAN_AGES: &str =
     "error: --keep: each age is greater than the one before it, and the first than 0\n\n\
     For more information, try 'elephant forecast --help'.\n";
 
-const BAD_BOUND: &str = "error: --most-versions and --most-bytes take a number, without a leading \
+const BAD_BOUND: &str = "error: --versions and --bytes take a number, without a leading \
     zero\n\n\
     For more information, try 'elephant forecast --help'.\n";
 
@@ -33,11 +33,11 @@ pub(crate) fn keep_in(forecast: &ArgMatches) -> Result<Asked, Unread>
         Ok(spans) => spans,
         Err(why) => return Err(why),
     };
-    let most_versions = match bound_in(forecast, "most-versions") {
+    let most_versions = match bound_in(forecast, "versions") {
         Ok(most) => most,
         Err(why) => return Err(why),
     };
-    let most_bytes = match bound_in(forecast, "most-bytes") {
+    let most_bytes = match bound_in(forecast, "bytes") {
         Ok(most) => most,
         Err(why) => return Err(why),
     };

@@ -144,7 +144,7 @@ const NO_COMMON_LABELS: &str =
 const NO_KEEP: &str = "error: --suggest takes --keep, as 7d:all,90d:daily,5y:monthly\n\n\
     For more information, try 'elephant forecast --help'.\n";
 
-const BAD_KEPT: &str = "error: --keep, --most-versions and --most-bytes are for --suggest\n\n\
+const BAD_KEPT: &str = "error: --keep, --versions and --bytes are for --suggest\n\n\
     For more information, try 'elephant forecast --help'.\n";
 
 const NO_POLICY: &str = "error: --policy or --rule is missing\n\n\
@@ -437,7 +437,7 @@ fn check_kept(forecast: &ArgMatches, form: Form) -> Result<(), Unread>
 fn has_bounds(forecast: &ArgMatches) -> bool
     ensures { result ≡ has_bounds (rows_of (found_of forecast.now)) }
 {
-    value_of(forecast, "most-versions").is_some() || value_of(forecast, "most-bytes").is_some()
+    value_of(forecast, "versions").is_some() || value_of(forecast, "bytes").is_some()
 }
 
 // Refuses rules for a form that has none.
