@@ -4,3 +4,4 @@ pub mod OfClap
 pub mod Spelled
 pub mod Asked
 pub mod Asking
+pub mod Kept
