@@ -12,7 +12,8 @@ use clap::ArgMatches;
 use ele_moment::read_number;
 use ele_suggest::{Asked, MOST_SPANS, Span, ages_rise, read_spans};
 
-const BAD_SPANS: &str = "error: --keep takes AGE:PERIODS,.., as 7d:all,90d:daily,5y:monthly: one to \
+const BAD_SPANS: &str =
+    "error: --keep takes AGE:PERIODS,.., as 7d:all,90d:daily,5y:monthly: one to \
     eight ages, each with all, hourly, daily, weekly, monthly or yearly\n\n\
     For more information, try 'elephant forecast --help'.\n";
 

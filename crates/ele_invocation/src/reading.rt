@@ -364,11 +364,7 @@ fn takes_labels(form: Form) -> bool
 {
     !matches!(
         form,
-        Form::Drawing
-            | Form::BytesDrawing
-            | Form::Every(_)
-            | Form::EveryCsv(_)
-            | Form::Suggest(_)
+        Form::Drawing | Form::BytesDrawing | Form::Every(_) | Form::EveryCsv(_) | Form::Suggest(_)
     )
 }
 
