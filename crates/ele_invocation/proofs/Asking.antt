@@ -1,12 +1,14 @@
 -- A forecast that is asked for takes so many policies, moments and rules.
-use Rattle.std.proofs.Common.{◌≡◌, ◌∙◌, ℕ, List, Option, Result, Ok, Some, Bor, codes, length, map, ap, sym, arith}
+use Rattle.std.proofs.Common.{◌≡◌, ◌∙◌, ℕ, List, Option, Result, Ok, Err, IfErr, Some, None, Bor, codes, is_some, length, map, option_map, ap, sym, arith}
 use Rattle.std.proofs.lemmas.List.{length-map}
 use Rattle.clap.specs.Words.{Row, Text}
 use Rattle.ele_outlook.specs.declared.options.Form.{Form}
 use Rattle.ele_outlook.specs.declared.options.ForecastOptions.{ForecastOptions}
 use Rattle.ele_invocation.specs.Forecasts.{AsksForecast, Fits, IsForm, IsPlainForm, answer_of}
 use Rattle.ele_invocation.specs.Matches.{is_given, is_on, values_of}
+use Rattle.ele_invocation.specs.Unread.{NoneAsks}
 use Rattle.ele_invocation.specs.declared.reading.Unread.{Unread}
+use Rattle.ele_invocation.proofs.Spelled.{none_at_all}
 
 same_form : (a b : Form) → ◌≡◌ {A = Result Form Unread} (Ok a) (Ok b) → a ≡ b
 same_form a b e = cc
@@ -27,3 +29,16 @@ pub only_answer : (rows : List Row) (plain form : Form) (given : Option Form) �
     → given ≡ answer_of (is_given (codes "against") rows) (is_on (codes "suggest") rows) plain → IsForm rows form → given ≡ Some form
 only_answer rows plain form given only answered is =
     answered ∙ ap (answer_of (is_given (codes "against") rows) (is_on (codes "suggest") rows)) (same_form plain is.plain (only is.plain is.plain_is)) ∙ is.answered
+
+-- a value is given, if there is one
+pub some_given : (o : Option (Bor Text)) (got : Option Text) → option_map (λ v. v.now) o ≡ got → is_some o ≡ is_some got
+some_given None got e = ap is_some e
+some_given (Some v) got e = ap is_some e
+
+err_ok : (why : Unread) (form : Form) → ◌≡◌ {A = Result Form Unread} (Err why) (Ok form) → ⊥
+err_ok why form e = absurd cc
+
+-- words that have no form ask for no forecast, whatever the reason
+pub no_form : {T : Type 0} (now : Option ℕ) (rows : List Row) (why : Unread) (r : Result T Unread) → ((f : Form) → IsForm rows f → ◌≡◌ {A = Result Form Unread} (Err why) (Ok f)) → IfErr r (NoneAsks (AsksForecast now rows))
+no_form now rows why (Ok t) only = tt
+no_form now rows why (Err other) only = none_at_all (AsksForecast now rows) other (λ ask asks. err_ok why ask.form (only ask.form asks.form))
