@@ -1,5 +1,5 @@
 -- A forecast that is asked for takes so many policies, moments and rules.
-use Rattle.std.proofs.Common.{◌≡◌, ◌∙◌, ℕ, List, Option, Result, Ok, Err, IfErr, Some, None, Bor, codes, is_some, length, map, option_map, ap, sym, arith}
+use Rattle.std.proofs.Common.{◌≡◌, ◌∙◌, ℕ, List, Option, Result, Ok, Err, IfErr, Some, None, Bor, codes, is_some, length, map, option_map, ap, arith}
 use Rattle.std.proofs.lemmas.List.{length-map}
 use Rattle.clap.specs.Words.{Row, Text}
 use Rattle.ele_outlook.specs.declared.options.Form.{Form}

@@ -1,4 +1,4 @@
-use Rattle.std.proofs.Common.{rules, Bool, Bor, List, ℕ, Option, Some, codes, map, refl, subst, sym, ap, ap₂, ◌∙◌, ◌≡◌}
+use Rattle.std.proofs.Common.{rules, Bool, Bor, List, ℕ, Some, codes, map, refl, subst, sym, ap, ap₂, ◌∙◌}
 use Rattle.std.proofs.lemmas.Bool.{false≢true}
 use Rattle.std.proofs.lemmas.List.{length-map}
 use Rattle.std.proofs.lemmas.Option.{same_Some}
