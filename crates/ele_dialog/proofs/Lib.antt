@@ -2,6 +2,8 @@ mod Basics
 -- the first byte of a kind
 mod Lines
 mod Headed
+-- dates behind lines
+mod Dated
 mod Helped
 -- bytes, line after line
 mod Read

@@ -1,7 +1,9 @@
 -- The answer to a typed line.
 use Rattle.std.specs.Prelude.{◌≡◌, ℕ, Bool, true, false, List, [], ◌++◌, Option, Some, None, MatchBool}
+use Rattle.ele_dialog.specs.Dates.{IsShown}
 use Rattle.ele_dialog.specs.Heading.{headed, heading_of}
 use Rattle.ele_dialog.specs.Help.{IsHelp, IsTopic}
+use Rattle.ele_dialog.specs.Places.{places_of}
 use Rattle.ele_history.specs.Past.{Past}
 use Rattle.ele_reasons.specs.declared.reasons.Reason.{Reason}
 use Rattle.ele_run_options.specs.declared.options.RunOptions.{RunOptions}
@@ -26,15 +28,18 @@ abbrev pub IsReasonText : ℕ → List ℕ → Said → List ℕ → Type 0
 IsReasonText number line said text =
     MatchBool (is_bad said) ((why : Option Reason) × IsBadReason dialog_options (line_unless_long line) why × (text ≡ why_line number why)) (text ≡ [])
 
--- the line was answered as by a run with these options; the text is the reason of a bad line, and the answer with a heading above its rows
+-- the line was answered as by a run with these options; the text is the reason of a bad line, and the answer with the dates of its moments
+-- behind its lines and a heading above its rows
 pub record IsHeard (number : ℕ) (before : Past) (line text : List ℕ) (after : Past) : Type 0 where
   pub said : Said
   pub reason : List ℕ
   pub answer : List ℕ
+  pub shown : List ℕ
   pub hears : HearsKept dialog_options (Recorded before) (line_unless_long line) said (Recorded after)
   pub reason_is : IsReasonText number line said reason
   pub answer_is : IsText (last_reply after) after.folded after.entries said answer
-  pub text_is : text ≡ reason ++ headed (heading_of said (last_reply after)) answer
+  pub shown_is : IsShown (places_of said (last_reply after)) answer shown
+  pub text_is : text ≡ reason ++ headed (heading_of said (last_reply after)) shown
 
 -- the text answers the line with this number: help, which changes nothing, or as a run does
 pub data IsAnswered (number : ℕ) (before : Past) (line text : List ℕ) (after : Past) : Type 0 where

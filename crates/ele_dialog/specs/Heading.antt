@@ -3,7 +3,7 @@ use Rattle.std.specs.Prelude.{ℕ, ◌==◌, List, [], ◌∷◌, ◌++◌, code
 use Rattle.ele_model.specs.declared.reply.Reply.{Reply}
 use Rattle.ele_model.specs.declared.reply.Reply.TheVariants.{Rows, NameList, RestoreList, DueList, UsageList}
 use Rattle.ele_runs.specs.declared.said.Said.{Said}
-use Rattle.ele_runs.specs.declared.said.Said.TheVariants.{Replied, Ahead, Expiring, Gone, Handles, Removals, Changes}
+use Rattle.ele_runs.specs.declared.said.Said.TheVariants.{Replied, Ahead, Gone, Handles, Removals, Changes, Expiring, Story}
 
 -- the heading of the rows of a reply
 abbrev pub reply_heading : Option Reply → List ℕ
@@ -18,10 +18,11 @@ reply_heading last = []
 abbrev pub heading_of : Said → Option Reply → List ℕ
 heading_of Replied last = reply_heading last
 heading_of (Ahead (Ok keys)) last = codes "  ripe file version\n"
-heading_of (Expiring (Ok found)) last = codes "  ripe file version path until\n"
 heading_of (Gone rows) last = codes "  removed file version path fate\n"
 heading_of (Handles handles) last = codes "  handle file version since path\n"
 heading_of (Removals rows) last = codes "  removed file version path until fate\n"
+heading_of (Expiring (Ok found)) last = codes "  ripe file version path until\n"
+heading_of (Story (Ok story)) last = codes "  version number closed ended length fate\n  name from until path\n"
 heading_of (Changes (Ok found)) last = codes "  change kind number version-before version-after path-before path-after\n"
 heading_of said last = []
 

@@ -1,6 +1,9 @@
 pub mod Answer
+pub mod Dates
 pub mod Dialog
 pub mod Heading
 pub mod Help
 pub mod Input
 pub mod Next
+pub mod Places
+pub mod Walk

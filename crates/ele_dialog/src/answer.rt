@@ -1,13 +1,17 @@
 //! Answers a typed line. A contract sees the text of the answer, and the history after it.
 ghost use Rattle.std.specs.Prelude.{◌≡◌, ◌++◌, IfOk, List, ℕ};
 ghost use Rattle.ele_dialog.specs.Answer.{IsAnswered, IsHeard, IsReasonText, dialog_options, is_bad};
+ghost use Rattle.ele_dialog.specs.Dates.{IsDatedText, IsShown};
 ghost use Rattle.ele_dialog.specs.Heading.{headed, heading_of};
+ghost use Rattle.ele_dialog.specs.Places.{places_of};
 ghost use Rattle.ele_output.specs.Prints.{Prints};
 ghost use Rattle.ele_runs.specs.Kept.{last_reply};
 ghost use Rattle.ele_runs.specs.Said.{IsText};
 
+use crate::dates::dated;
 use crate::heading::{heading_of, put_headed};
 use crate::help::{put_help, topic_of};
+use crate::places::{Places, places_of};
 use ele_history::History;
 use ele_model::{Explain, FromFlat};
 use ele_moment::NoMemory;
@@ -30,7 +34,8 @@ fn dialog_options() -> RunOptions
 }
 
 /// Answers the line with this number: by help, or as a run does, with the reason of a bad line before
-/// its answer and a heading above rows. `NoMemory` if memory for the text is refused.
+/// its answer, a heading above rows and dates behind moments. `NoMemory` if memory for the text is
+/// refused.
 pub(crate) fn put_line<C: Explain + FromFlat, W: Write>(
     alloc: Global,
     number: u64,
@@ -92,20 +97,44 @@ fn put_reason<W: Write>(
     put_why(number, why, printer);
 }
 
-// Prints an answer, with a heading above its rows.
+// Prints an answer, with the dates of its moments and a heading above its rows.
 fn put_said<C: Explain + FromFlat, W: Write>(
     alloc: Global,
     said: &Said,
     history: &History<C>,
     printer: &mut Printer<'_, W>,
 ) -> Result<(), NoMemory>
-    ensures { IfOk result (λ _. (text : List ℕ)
+    ensures { IfOk result (λ _. (text shown : List ℕ)
         × IsText (last_reply history.now) history.now.folded history.now.entries said.now text
+        × IsShown (places_of said.now (last_reply history.now)) text shown
         × Prints W.contents printer.old printer.new
-        (headed (heading_of said.now (last_reply history.now)) text)) }
+        (headed (heading_of said.now (last_reply history.now)) shown)) }
 {
     let heading = heading_of(said, last_reply(history));
-    put_under(alloc, heading, said, history, printer)
+    match places_of(said, last_reply(history)) {
+        Some(places) => put_with_dates(alloc, places, heading, said, history, printer),
+        None => put_under(alloc, heading, said, history, printer),
+    }
+}
+
+// Prints an answer with the dates of its moments, which stand there, and this heading above its rows.
+fn put_with_dates<C: Explain + FromFlat, W: Write>(
+    alloc: Global,
+    places: Places,
+    heading: &[u8],
+    said: &Said,
+    history: &History<C>,
+    printer: &mut Printer<'_, W>,
+) -> Result<(), NoMemory>
+    ensures { IfOk result (λ _. (text shown : List ℕ)
+        × IsText (last_reply history.now) history.now.folded history.now.entries said.now text
+        × IsDatedText places text shown
+        × Prints W.contents printer.old printer.new (headed heading.now shown)) }
+{
+    let text = text_of(alloc, said, history)?;
+    let shown = dated(alloc, places, text.as_slice())?;
+    put_headed(heading, shown.as_slice(), printer);
+    Ok(())
 }
 
 // Prints an answer with this heading above its rows, or as a run prints it if there is no heading.

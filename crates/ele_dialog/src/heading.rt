@@ -21,6 +21,9 @@ pub(crate) fn heading_of(said: &Said, last: Option<&Reply>) -> &'static [u8]
         Said::Gone(_) => b"  removed file version path fate\n",
         Said::Handles(_) => b"  handle file version since path\n",
         Said::Removals(_) => b"  removed file version path until fate\n",
+        Said::Expiring(Ok(_)) => b"  ripe file version path until\n",
+        Said::Story(Ok(_)) =>
+            b"  version number closed ended length fate\n  name from until path\n",
         Said::Changes(Ok(_)) =>
             b"  change kind number version-before version-after path-before path-after\n",
         _ => b"",

@@ -12,16 +12,18 @@ returns g c =
     let after = c.hear_kept-said.new.keeper in
     IfOk-weaker c.put_said.result _ _
     (λ _ is. (
-      reason.0 ++ headed (heading_of c.hear_kept-said.result (last_reply after)) is.0,
+      reason.0 ++ headed (heading_of c.hear_kept-said.result (last_reply after)) is.1,
       record {
         said = c.hear_kept-said.result;
         reason = reason.0;
         answer = is.0;
+        shown = is.1;
         hears = heard;
         reason_is = reason.1;
-        answer_is = is.1;
+        answer_is = is.2;
+        shown_is = is.3;
         text_is = refl;
       },
-      puts_then reason.2 is.2,
+      puts_then reason.2 is.4,
     ))
     c.put_said.ensures
