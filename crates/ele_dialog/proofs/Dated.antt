@@ -1,14 +1,12 @@
--- Dates that are printed word after word, and lines with them.
+-- Dates that are added word after word, and lines with them.
 use Rattle.std.proofs.lemmas.Grind.{flat_map-append}
-use Rattle.std.specs.List.{AllZip, flat_map}
-use Rattle.ele_dialog.proofs.Basics.{Bool, List, [], ap, append-nil, append_assoc, false, refl, subst, sym, true, ℕ, ◌++◌, ◌∙◌, ◌∷◌, ◌≡◌}
-use Rattle.ele_dialog.specs.Dates.{AreDates, IsDatedLine, between_dates, dated_words, joined, parts_of}
+use Rattle.std.specs.List.{AllZip, flat_map, slice_split}
+use Rattle.ele_dialog.proofs.Basics.{Bool, List, [], ap, append-nil, append_assoc, false, refl, subst, sym, true, ℕ, ◌++◌, ◌==◌, ◌∙◌, ◌∷◌, ◌≡◌}
+use Rattle.ele_dialog.specs.Dates.{AreDates, IsDatedLine, IsDatesText, before_dates, between_dates, dated_words, joined, parts_of}
 use Rattle.ele_dialog.specs.Places.{columns_behind}
 use Rattle.ele_dialog.specs.declared.places.Places.{Places}
-use Rattle.ele_dialog.specs.Walk.{PutDates, PutWords, front_after}
+use Rattle.ele_dialog.specs.Walk.{AddsDates, AddsWords, front_after}
 use Rattle.ele_moment.specs.Spelled.{SpellsMoment, SpellsTimestamp}
-use Rattle.ele_output.proofs.Known.{puts_as, puts_nil, puts_then}
-use Rattle.ele_output.specs.Outlet.{Outlet, Puts}
 
 -- ---- texts in a row
 
@@ -52,66 +50,86 @@ dates_then (word ∷ words) more dates others (first, rest, is, by, parts) are =
   ap (λ (t : List (List ℕ)). t ++ others) parts ∙ append_assoc first rest others,
 )
 
-pub put_no_dates : (front : List ℕ) (a : Outlet) → PutDates front [] front a a
-put_no_dates front a = record { dates = []; are = refl; behind_is = refl; put = puts_nil a }
+pub add_no_dates : (front text : List ℕ) → AddsDates front [] front text text
+add_no_dates front text = record { dates = []; are = refl; behind_is = refl; adds = sym (append-nil text) }
 
-pub put_dates_then : {front mid behind : List ℕ} {words more : List (List ℕ)} {a b c : Outlet} → PutDates front words mid a b → PutDates mid more behind b c → PutDates front (words ++ more) behind a c
-put_dates_then {front} {mid} {behind} {words} {more} one two =
-    let text = ap (λ (f : List ℕ). joined front between_dates one.dates ++ joined f between_dates two.dates) one.behind_is in
+pub add_dates_then : {front mid behind a b c : List ℕ} {words more : List (List ℕ)} → AddsDates front words mid a b → AddsDates mid more behind b c → AddsDates front (words ++ more) behind a c
+add_dates_then {front} {mid} {behind} {a} {b} {c} {words} {more} one two =
+    let first = joined front between_dates one.dates in
+    let parts = ap (λ (f : List ℕ). first ++ joined f between_dates two.dates) one.behind_is ∙ sym (joined_then front between_dates one.dates two.dates) in
     record {
       dates = one.dates ++ two.dates;
       are = dates_then words more one.dates two.dates one.are two.are;
       behind_is = two.behind_is ∙ (ap (λ (f : List ℕ). front_after f between_dates two.dates) one.behind_is ∙ sym (front_then front between_dates one.dates two.dates));
-      put = puts_as (text ∙ sym (joined_then front between_dates one.dates two.dates)) (puts_then one.put two.put);
+      adds =
+          two.adds
+          ∙ (ap (λ (t : List ℕ). t ++ joined mid between_dates two.dates) one.adds
+          ∙ (append_assoc a first (joined mid between_dates two.dates) ∙ ap (λ (t : List ℕ). a ++ t) parts));
     }
 
 -- the date of a part
-pub put_one_date : (front part date : List ℕ) (moment : ℕ) {a b c : Outlet} → SpellsMoment part moment → SpellsTimestamp date moment → Puts a b front → Puts b c date
-    → PutDates front (part ∷ []) between_dates a c
-put_one_date front part date moment spells stamp before put = record {
+pub add_one_date : (front part date : List ℕ) (moment : ℕ) (a b c : List ℕ) → SpellsMoment part moment → SpellsTimestamp date moment → b ≡ a ++ front → c ≡ b ++ date
+    → AddsDates front (part ∷ []) between_dates a c
+add_one_date front part date moment a b c spells stamp before is = record {
   dates = date ∷ [];
   are = (date ∷ [], [], (moment, spells, stamp), refl, refl);
   behind_is = refl;
-  put = puts_as (ap (λ (t : List ℕ). front ++ t) (sym (append-nil date))) (puts_then before put);
+  adds = is ∙ (ap (λ (t : List ℕ). t ++ date) before ∙ (append_assoc a front date ∙ ap (λ (t : List ℕ). a ++ (front ++ t)) (sym (append-nil date))));
 }
 
 -- a part that is no moment
-pub put_none_date : (front part : List ℕ) (a : Outlet) → ((moment : ℕ) → SpellsMoment part moment → ⊥) → PutDates front (part ∷ []) front a a
-put_none_date front part a none =
-    record { dates = []; are = ([], [], none, refl, refl); behind_is = refl; put = puts_nil a }
+pub add_none_date : (front part text : List ℕ) → ((moment : ℕ) → SpellsMoment part moment → ⊥) → AddsDates front (part ∷ []) front text text
+add_none_date front part text none =
+    record { dates = []; are = ([], [], none, refl, refl); behind_is = refl; adds = sym (append-nil text) }
 
 -- ---- words
 
-pub put_no_words : (columns : List Bool) (front : List ℕ) (a : Outlet) → PutWords columns front [] columns front a a
-put_no_words columns front a = record { found = []; walked = λ others. refl; put = put_no_dates front a }
+none_left : (columns : List Bool) → dated_words columns [] ≡ []
+none_left [] = refl
+none_left (c ∷ cs) = refl
 
-pub put_words_then : {columns left later : List Bool} {front mid behind : List ℕ} {words more : List (List ℕ)} {a b c : Outlet}
-    → PutWords columns front words left mid a b → PutWords left mid more later behind b c → PutWords columns front (words ++ more) later behind a c
-put_words_then {columns} {left} {later} {front} {mid} {behind} {words} {more} {a} {b} {c} one two = record {
+pub add_no_words : (columns : List Bool) (front text : List ℕ) → AddsWords columns front [] columns front text text
+add_no_words columns front text = record { found = []; walked = λ others. refl; adds = add_no_dates front text }
+
+pub add_words_then : {columns left later : List Bool} {front mid behind a b c : List ℕ} {words more : List (List ℕ)}
+    → AddsWords columns front words left mid a b → AddsWords left mid more later behind b c → AddsWords columns front (words ++ more) later behind a c
+add_words_then {columns} {left} {later} {front} {mid} {behind} {a} {b} {c} {words} {more} one two = record {
   found = one.found ++ two.found;
   walked = λ others.
-    ap (dated_words columns) (append_assoc words more others)
-    ∙ (one.walked (more ++ others)
-    ∙ (ap (λ (t : List (List ℕ)). one.found ++ t) (two.walked others) ∙ sym (append_assoc one.found two.found (dated_words later others))));
-  put = subst (λ (parts : List (List ℕ)). PutDates front parts behind a c) (sym (flat_map-append parts_of one.found two.found)) (put_dates_then one.put two.put);
+      ap (dated_words columns) (append_assoc words more others)
+      ∙ (one.walked (more ++ others)
+      ∙ (ap (λ (t : List (List ℕ)). one.found ++ t) (two.walked others) ∙ sym (append_assoc one.found two.found (dated_words later others))));
+  adds = subst (λ (parts : List (List ℕ)). AddsDates front parts behind a c) (sym (flat_map-append parts_of one.found two.found)) (add_dates_then one.adds two.adds);
 }
 
 -- a word that is a moment, or has several
-pub put_moment_word : (columns left : List Bool) (front behind word : List ℕ) (a b : Outlet) → columns ≡ true ∷ left → PutDates front (parts_of word) behind a b
-    → PutWords columns front (word ∷ []) left behind a b
-put_moment_word columns left front behind word a b is put = rw is (record {
+pub add_moment_word : (columns left : List Bool) (front behind word a b : List ℕ) → columns ≡ true ∷ left → AddsDates front (parts_of word) behind a b
+    → AddsWords columns front (word ∷ []) left behind a b
+add_moment_word columns left front behind word a b is adds = rw is (record {
   found = word ∷ [];
   walked = λ others. refl;
-  put = subst (λ (parts : List (List ℕ)). PutDates front parts behind a b) (sym (append-nil (parts_of word))) put;
+  adds = subst (λ (parts : List (List ℕ)). AddsDates front parts behind a b) (sym (append-nil (parts_of word))) adds;
 })
 
 -- another word of a column
-pub put_other_word : (columns left : List Bool) (front word : List ℕ) (a : Outlet) → columns ≡ false ∷ left → PutWords columns front (word ∷ []) left front a a
-put_other_word columns left front word a is = rw is (record { found = []; walked = λ others. refl; put = put_no_dates front a })
+pub add_other_word : (columns left : List Bool) (front word a : List ℕ) → columns ≡ false ∷ left → AddsWords columns front (word ∷ []) left front a a
+add_other_word columns left front word a is = rw is (record { found = []; walked = λ others. refl; adds = add_no_dates front a })
 
 -- a word behind the columns
-pub put_loose_word : (columns left : List Bool) (front word : List ℕ) (a : Outlet) → columns ≡ [] → left ≡ columns_behind word → PutWords columns front (word ∷ []) left front a a
-put_loose_word columns left front word a none is = rw (none, is) (record { found = []; walked = λ others. refl; put = put_no_dates front a })
+pub add_loose_word : (columns left : List Bool) (front word a : List ℕ) → columns ≡ [] → left ≡ columns_behind word → AddsWords columns front (word ∷ []) left front a a
+add_loose_word columns left front word a none is = rw (none, is) (record { found = []; walked = λ others. refl; adds = add_no_dates front a })
+
+-- all words of a line
+pub dates_text_of : (columns left : List Bool) (line behind old new : List ℕ) → AddsWords columns before_dates (slice_split (λ byte. byte == 32) line) left behind old new
+    → (text : List ℕ) × IsDatesText columns line text × (new ≡ old ++ text)
+dates_text_of columns left line behind old new all =
+    let words = slice_split (λ byte. byte == 32) line in
+    let found : all.found ≡ dated_words columns words =
+    sym (ap (dated_words columns) (sym (append-nil words)) ∙ (all.walked [] ∙ (ap (λ (t : List (List ℕ)). all.found ++ t) (none_left left) ∙ append-nil all.found))) in (
+      joined before_dates between_dates all.adds.dates,
+      (all.adds.dates, subst (λ (ws : List (List ℕ)). AreDates (flat_map parts_of ws) all.adds.dates) found all.adds.are, refl),
+      all.adds.adds,
+    )
 
 -- ---- lines
 
@@ -121,21 +139,24 @@ zip_push R [] (b ∷ ys) x y all r = absurd all
 zip_push R (a ∷ xs) [] x y all r = absurd all
 zip_push R (a ∷ xs) (b ∷ ys) x y all r = (all.0, zip_push R xs ys x y all.1 r)
 
--- the lines so far were printed with their dates
-pub record LinesSoFar (places : Places) (lines : List (List ℕ)) (front : List ℕ) (old new : Outlet) : Type 0 where
+-- the lines so far, with their dates
+pub record LinesSoFar (places : Places) (lines : List (List ℕ)) (front text : List ℕ) : Type 0 where
   pub shown : List (List ℕ)
   pub each : AllZip (IsDatedLine places) lines shown
   pub front_is : front ≡ front_after [] (10 ∷ []) shown
-  pub put : Puts old new (joined [] (10 ∷ []) shown)
+  pub text_is : text ≡ joined [] (10 ∷ []) shown
 
-pub no_lines : (places : Places) (a : Outlet) → LinesSoFar places [] [] a a
-no_lines places a = record { shown = []; each = tt; front_is = refl; put = puts_nil a }
+pub no_lines : (places : Places) (text : List ℕ) → text ≡ [] → LinesSoFar places [] [] text
+no_lines places text is = record { shown = []; each = tt; front_is = refl; text_is = is }
 
-pub lines_more : (places : Places) (lines : List (List ℕ)) (front line text : List ℕ) {a b c d : Outlet}
-    → LinesSoFar places lines front a b → IsDatedLine places line text → Puts b c front → Puts c d text → LinesSoFar places (lines ++ line ∷ []) (10 ∷ []) a d
-lines_more places lines front line text so is before put = record {
+pub lines_more : (places : Places) (lines : List (List ℕ)) (front line a b c : List ℕ)
+    → LinesSoFar places lines front a → b ≡ a ++ front → (text : List ℕ) × IsDatedLine places line text × (c ≡ b ++ text) → LinesSoFar places (lines ++ line ∷ []) (10 ∷ []) c
+lines_more places lines front line a b c so before (text, is, adds) = record {
   shown = so.shown ++ text ∷ [];
   each = zip_push (IsDatedLine places) lines so.shown line text so.each is;
   front_is = front_more [] (10 ∷ []) so.shown text;
-  put = puts_as (joined_more [] (10 ∷ []) front so.shown text so.front_is) (puts_then so.put (puts_then before put));
+  text_is =
+      adds
+      ∙ (ap (λ (t : List ℕ). t ++ text) (before ∙ ap (λ (t : List ℕ). t ++ front) so.text_is)
+      ∙ (append_assoc (joined [] (10 ∷ []) so.shown) front text ∙ joined_more [] (10 ∷ []) front so.shown text so.front_is));
 }
