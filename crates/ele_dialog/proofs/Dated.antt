@@ -1,7 +1,7 @@
 -- Dates that are added word after word, and lines with them.
 use Rattle.std.proofs.lemmas.Grind.{flat_map-append}
 use Rattle.std.specs.List.{AllZip, flat_map, slice_split}
-use Rattle.ele_dialog.proofs.Basics.{Bool, List, [], ap, append-nil, append_assoc, false, refl, subst, sym, true, ℕ, ◌++◌, ◌==◌, ◌∙◌, ◌∷◌, ◌≡◌}
+use Rattle.ele_dialog.proofs.Basics.{Bool, Err, List, Ok, Result, [], ap, append-nil, append_assoc, arith, false, length, refl, subst, sym, true, ℕ, ◌++◌, ◌==◌, ◌∙◌, ◌∷◌, ◌≡◌}
 use Rattle.ele_dialog.specs.Dates.{AreDates, IsDatedLine, IsDatesText, before_dates, between_dates, dated_words, joined, parts_of}
 use Rattle.ele_dialog.specs.Places.{columns_behind}
 use Rattle.ele_dialog.specs.declared.places.Places.{Places}
@@ -77,6 +77,11 @@ add_one_date front part date moment a b c spells stamp before is = record {
   adds = is ∙ (ap (λ (t : List ℕ). t ++ date) before ∙ (append_assoc a front date ∙ ap (λ (t : List ℕ). a ++ (front ++ t)) (sym (append-nil date))));
 }
 
+-- a result is one of both
+pub ok_or_err : {A E : Type 0} (r : Result A E) (x : A) (e : E) → r ≡ Err e → r ≡ Ok x → ⊥
+ok_or_err (Ok y) x e is same = absurd cc
+ok_or_err (Err y) x e is same = absurd cc
+
 -- a part that is no moment
 pub add_none_date : (front part text : List ℕ) → ((moment : ℕ) → SpellsMoment part moment → ⊥) → AddsDates front (part ∷ []) front text text
 add_none_date front part text none =
@@ -110,6 +115,10 @@ add_moment_word columns left front behind word a b is adds = rw is (record {
   walked = λ others. refl;
   adds = subst (λ (parts : List (List ℕ)). AddsDates front parts behind a b) (sym (append-nil (parts_of word))) adds;
 })
+
+pub no_columns : (columns : List Bool) → length columns ≡ 0 → columns ≡ []
+no_columns [] none = refl
+no_columns (c ∷ cs) none = absurd (omega (arith, none))
 
 -- another word of a column
 pub add_other_word : (columns left : List Bool) (front word a : List ℕ) → columns ≡ false ∷ left → AddsWords columns front (word ∷ []) left front a a

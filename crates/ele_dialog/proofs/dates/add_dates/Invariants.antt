@@ -6,4 +6,4 @@ use Rattle.ele_dialog.proofs.dates.add_dates.Given as goal
 -- the dates of the words so far
 abbrev pub invariant-loop-word : goal.invariant-loop-word
 invariant-loop-word l =
-    AddsWords l.fn.columns.now before_dates (map (λ word. word.now) l.yielded) l.left.now l.front.now l.fn.shown.items l.shown.items
+    AddsWords l.fn.columns before_dates (map (λ word. word.now) l.yielded) l.left l.front l.fn.shown.items l.shown.items

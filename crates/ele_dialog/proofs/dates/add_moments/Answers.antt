@@ -1,4 +1,5 @@
-use Rattle.std.proofs.Common.{rules, tests, map, map-append}
+use Rattle.std.proofs.Common.{rules, tests, map}
+use Rattle.std.proofs.lemmas.List.{map-append}
 use Rattle.std.proofs.lemmas.Iterator.Splits.{YieldsList-from_slice_split}
 use Rattle.std.proofs.lemmas.Iterator.Consumers.{YieldsList-at, YieldsList-end}
 use Rattle.std.specs.Prelude.{◌||◌}
@@ -11,7 +12,7 @@ pub loop-part-init : goal.loop-part-init
 loop-part-init c = add_no_dates _ _
 
 pub loop-part-preserved : goal.loop-part-preserved
-loop-part-preserved c = rw map-append (add_dates_then c.loop-part.invariant c.in_ok-add_moment.ensures)
+loop-part-preserved c = rw map-append (add_dates_then c.loop-part.invariant c.in_ok-front.ensures)
 
 pub returns : goal.returns
 returns c =

@@ -5,4 +5,4 @@ use Rattle.ele_dialog.proofs.dates.add_moments.Given as goal
 -- the dates of the parts so far
 abbrev pub invariant-loop-part : goal.invariant-loop-part
 invariant-loop-part l =
-    AddsDates l.fn.first.now (map (λ part. part.now) l.yielded) l.front.now l.fn.shown.items l.shown.items
+    AddsDates l.fn.first (map (λ part. part.now) l.yielded) l.front l.fn.shown.items l.shown.items

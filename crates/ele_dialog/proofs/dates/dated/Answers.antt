@@ -1,4 +1,5 @@
-use Rattle.std.proofs.Common.{rules, tests, map, map-append}
+use Rattle.std.proofs.Common.{rules, tests, map}
+use Rattle.std.proofs.lemmas.List.{map-append}
 use Rattle.std.proofs.lemmas.Iterator.Splits.{YieldsList-from_slice_split}
 use Rattle.std.proofs.lemmas.Iterator.Consumers.{YieldsList-at, YieldsList-end}
 use Rattle.std.specs.List.{AllZip}
@@ -8,11 +9,11 @@ use Rattle.ele_dialog.specs.Dates.{IsDatedLine}
 use Rattle.ele_dialog.proofs.dates.dated.Goals as goal
 
 pub loop-line-init : goal.loop-line-init
-loop-line-init c = no_lines _ _ c.new-shown.ensures
+loop-line-init c = no_lines _ _ c.new-shown.ensures.items
 
 pub loop-line-preserved : goal.loop-line-preserved
 loop-line-preserved c =
-    rw map-append (lines_more _ _ _ _ _ _ _ c.loop-line.invariant c.in_ok-extend_from_slice.ensures c.in_ok-add_dated_line.ensures)
+    rw map-append (lines_more _ _ _ _ _ _ _ c.loop-line.invariant c.in_ok-extend_from_slice.ensures.items c.in_ok-add_dated_line.ensures)
 
 pub returns : goal.returns
 returns c =
