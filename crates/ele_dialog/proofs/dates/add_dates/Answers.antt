@@ -1,4 +1,4 @@
-use Rattle.std.proofs.Common.{rules, tests, map}
+use Rattle.std.proofs.Common.{rules, tests}
 use Rattle.std.proofs.lemmas.List.{map-append}
 use Rattle.std.proofs.lemmas.Iterator.Splits.{YieldsList-from_slice_split}
 use Rattle.std.proofs.lemmas.Iterator.Consumers.{YieldsList-at, YieldsList-end}

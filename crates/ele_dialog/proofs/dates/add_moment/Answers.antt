@@ -1,4 +1,3 @@
-use Rattle.ele_dialog.proofs.Basics.{Err, Ok, ◌≡◌}
 use Rattle.ele_dialog.proofs.Dated.{add_none_date, add_one_date, ok_or_err}
 use Rattle.ele_dialog.proofs.dates.add_moment.Goals as goal
 

@@ -1,4 +1,4 @@
-use Rattle.std.proofs.Common.{Bool, List, ap, ◌∙◌, ◌∷◌}
+use Rattle.std.proofs.Common.{Bool, ap, ◌∙◌, ◌∷◌}
 use Rattle.ele_dialog.proofs.Dated.{add_loose_word, add_moment_word, add_other_word, no_columns}
 use Rattle.ele_dialog.proofs.dates.add_word.Goals as goal
 
