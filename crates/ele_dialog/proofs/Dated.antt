@@ -1,8 +1,8 @@
 -- Dates that are added word after word, and lines with them.
 use Rattle.std.proofs.lemmas.Grind.{flat_map-append}
 use Rattle.std.specs.List.{AllZip, flat_map, slice_split}
-use Rattle.ele_dialog.proofs.Basics.{Bool, Err, List, Ok, Result, [], ap, append-nil, append_assoc, arith, false, length, refl, subst, sym, true, ℕ, ◌++◌, ◌==◌, ◌∙◌, ◌∷◌, ◌≡◌}
-use Rattle.ele_dialog.specs.Dates.{AreDates, IsDatedLine, IsDatesText, before_dates, between_dates, dated_words, joined, parts_of}
+use Rattle.ele_dialog.proofs.Basics.{Bool, Err, List, None, Ok, Option, Result, Some, [], ap, append-nil, append_assoc, arith, false, length, refl, subst, sym, true, ℕ, ◌++◌, ◌==◌, ◌∙◌, ◌∷◌, ◌≡◌}
+use Rattle.ele_dialog.specs.Dates.{AreDates, IsDatedLine, IsDatedText, IsDatesText, IsShown, before_dates, between_dates, dated_words, joined, parts_of}
 use Rattle.ele_dialog.specs.Places.{columns_behind}
 use Rattle.ele_dialog.specs.declared.places.Places.{Places}
 use Rattle.ele_dialog.specs.Walk.{AddsDates, AddsWords, front_after}
@@ -169,3 +169,11 @@ lines_more places lines front line a b c so before (text, is, adds) = record {
       ∙ (ap (λ (t : List ℕ). t ++ text) (before ∙ ap (λ (t : List ℕ). t ++ front) so.text_is)
       ∙ (append_assoc (joined [] (10 ∷ []) so.shown) front text ∙ joined_more [] (10 ∷ []) front so.shown text so.front_is));
 }
+
+-- ---- what is shown
+
+pub shown_dated : (places : Option Places) (here : Places) (text shown : List ℕ) → places ≡ Some here → IsDatedText here text shown → IsShown places text shown
+shown_dated places here text shown is dated = rw is dated
+
+pub shown_plain : (places : Option Places) (text : List ℕ) → places ≡ None → IsShown places text text
+shown_plain places text is = rw is refl
