@@ -17,7 +17,6 @@ pub(crate) fn heading_of(said: &Said, last: Option<&Reply>) -> &'static [u8]
     match said {
         Said::Replied => reply_heading(last),
         Said::Ahead(Ok(_)) => b"  ripe file version\n",
-        Said::Expiring(Ok(_)) => b"  ripe file version path until\n",
         Said::Gone(_) => b"  removed file version path fate\n",
         Said::Handles(_) => b"  handle file version since path\n",
         Said::Removals(_) => b"  removed file version path until fate\n",
