@@ -22,8 +22,8 @@ FROM_HELP = "ele_commands/src/command.rt and ele_help/src/paragraphs.rt"
 BASES = {"stop": ["Stop"], "refusal": ["Refused"], "line": ["Refused", "ValueError"], "handle": ["ElephantError", "ValueError"]}
 # The words of _library._PARTS for a type of C; a size belongs to the pointer before it.
 PARTS = {"uint64_t": "number", "uint32_t": "word", "const void *": "text", "void *": "into"}
-# The most characters of a text on a line.
-MOST_TEXT = 128
+# The most characters of a line, and of a text on it.
+MOST_LINE, MOST_TEXT = 140, 128
 # What the tree of a mount doesn't show.
 SHORT_TOPICS = ("Policies", "Groups", "Cleaning")
 
@@ -73,11 +73,17 @@ def in_python(facts: Facts) -> Iterator[Code]:
             yield code
 
 
+def told(text: str) -> list[str]:
+    """Returns the lines of a class's documentation."""
+    lines = textwrap.wrap(f'"""{text}"""', MOST_LINE - 4)
+    return [f"    {it}" for it in lines]
+
+
 def exception(code: Code) -> str:
     """Returns the class of a code."""
     own = words.OWN_BASES.get(code.name)
     bases = [*BASES[code.kind][:1], own] if own else BASES[code.kind]
-    lines = [f"class {code.name}({', '.join(bases)}, number={code.number}):", f'    """{words.full_stop(code.sentence())}"""']
+    lines = [f"class {code.name}({', '.join(bases)}, number={code.number}):", *told(words.full_stop(code.sentence()))]
     lines += ["", f"    errno = errno.{words.SYSTEM[code.name]}"] if code.name in words.SYSTEM else []
     return "".join(f"{it}\n" for it in lines)
 
@@ -134,7 +140,7 @@ def takers(facts: Facts) -> dict[str, tuple[str, ...]]:
 
 
 def replay(tree: Tree, facts: Facts, _: Declared) -> str:
-    body = f'QUESTIONS = frozenset(\n    b"{" ".join(questions(facts))}".split()\n)\n'
+    body = f"QUESTIONS = frozenset((\n{wrapped(f'b{quoted(it)}' for it in questions(facts))}))\n"
     return with_region(REPLAY, tree[REPLAY], "the questions", FROM_COMMANDS, body)
 
 

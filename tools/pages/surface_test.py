@@ -58,7 +58,7 @@ OF_FILES = [
     Planted(python.ERRORS, '"members", "marks")', '"members", "marks", "pins")', (python.ERRORS,)),
     Planted(python.NAMES, "    IsRoot,\n", "", (python.NAMES,)),
     Planted(python.NAMES, '"IsDirectory", "IsRoot",', '"IsDirectory",', (python.NAMES,)),
-    Planted(python.REPLAY, "due groups list", "due list", (python.REPLAY,)),
+    Planted(python.REPLAY, 'b"due", b"groups"', 'b"due"', (python.REPLAY,)),
     Planted(python.CONTROL, '"clean", "default",', '"default",', (python.CONTROL,)),
     Planted(python.LANGUAGE, '"Removes the mark of a group', '"Removes a mark of a group', (python.LANGUAGE,)),
     Planted(python.LANGUAGE, '"rename P Q", "ok done"', '"rename P P", "ok done"', (python.LANGUAGE,)),

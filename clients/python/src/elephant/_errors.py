@@ -172,7 +172,8 @@ class NotMember(Refused, number=26):
 
 
 class NotAhead(Refused, number=41):
-    """The end of a mark must be later than now, the moment of 'ahead' or 'expiring' not earlier, nor the second of 'changes' than its first."""
+    """The end of a mark must be later than now, the moment of 'ahead' or 'expiring' not earlier, nor the second of 'changes' than its
+    first."""
 
 
 class BadName(Refused, ValueError, number=28):

@@ -167,8 +167,9 @@ class Questions(Turns):
         return [Removable(Moment(since), file, number) for since, file, number in keys]
 
     def why(self, path: Path, *, at: Optional[MomentLike] = None, version: Optional[SupportsIndex] = None) -> Fate:
-        """Returns why a version stays, or since when it may be removed and which mark held it until then. In a store with a history also when
-        and why `version` was removed."""
+        """Returns why a version stays, or since when it may be removed and which mark held it until then.
+
+        In a store with a history also when and why `version` was removed."""
         name, (tag, number) = spell(path), self._tag(at, version)
         with self._lock:
             core = self._begin()

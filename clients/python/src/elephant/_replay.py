@@ -15,9 +15,10 @@ MOST_LINE = 8192
 MOST_DIGITS = 19
 # Lines that change nothing, and that no journal has.
 # Printed by tools/pages/surface --write: the questions, from ele_commands/src/command.rt and ele_model/specs/NothingChanges.antt.
-QUESTIONS = frozenset(
-    b"due groups list read restorable stat usage versions history trim ahead answers changes expiring gone handles removals story why".split()
-)
+QUESTIONS = frozenset((
+    b"due", b"groups", b"list", b"read", b"restorable", b"stat", b"usage", b"versions", b"history", b"trim", b"ahead", b"answers",
+    b"changes", b"expiring", b"gone", b"handles", b"removals", b"story", b"why",
+))
 # End of the questions.
 
 
