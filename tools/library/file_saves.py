@@ -89,7 +89,8 @@ class Run:
     def reopen(self) -> bool:
         """Closes the file and opens it again, which makes all of it durable. After a failed sync it stops, since the memory here still has
         what a disk has lost."""
-        self.close()
+        if not self.close():
+            return False
         if not self.open() and ("synced" in self.failed or not self.open()):
             return False
         if number_in(self.it) != self.number:
@@ -97,11 +98,14 @@ class Run:
         note("has", self.number)
         return True
 
-    def close(self) -> None:
+    def close(self) -> bool:
+        """Closes the file, which asks for the disk. Returns whether that succeeded."""
         try:
             self.it.close()
         except JournalError as error:
             complain("close", error)
+            return False
+        return True
 
     @property
     def it(self) -> FileStore:
