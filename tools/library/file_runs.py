@@ -277,10 +277,10 @@ def keeps_all_if_killed(suite: Suite, kills: int) -> str:
     return f"{kills} kills, the last at change {last}"
 
 
-# Runs on a disk of 1 MiB, with a file that is removed before the second program looks.
+# Runs on a disk of 1 MiB, with a file that is removed before the second program looks. Then it tells how often the disk was full.
 FULL = """mount -t tmpfs -o size=1m none "$1" && head -c "$4" /dev/zero > "$1/other" || exit 77
-"$2" run "$1/$3" 400 "$5" "$6" 1000000 2> "$1/errors"
-rm "$1/other" "$1/errors" && echo "$1/$3" | "$7" check 1000000
+"$2" run "$1/$3" 400 "$5" "$6" 1000000 2> "$8"
+rm "$1/other" && echo "full $(grep -c 'No space left' "$8")" && echo "$1/$3" | "$7" check 1000000
 """
 
 
@@ -294,15 +294,17 @@ class Full(NamedTuple):
 
 def keeps_all_on_a_full_disk(suite: Suite, full: Full) -> str:
     """Runs on a small disk until it is full. Only root may make one: for others there is only the limit of lengths in `files`."""
-    with tempfile.TemporaryDirectory() as folder:
+    with tempfile.TemporaryDirectory() as folder, tempfile.NamedTemporaryFile() as errors:
         programs = str(suite.saver), str(suite.folder / "file_saves")
-        words = ["unshare", "--mount", "sh", "-c", FULL, "sh", folder, programs[0], NAME, *map(str, full), programs[1]]
+        words = ["unshare", "--mount", "sh", "-c", FULL, "sh", folder, programs[0], NAME, *map(str, full), programs[1], errors.name]
         ran = subprocess.run(words, capture_output=True, encoding="utf-8", errors="replace", timeout=SECONDS, check=False)
     if not ran.stdout and (os.geteuid() or ran.returncode in (1, 77)):
         return "passed over, since there is no small disk"
-    *run, has = ran.stdout.splitlines(keepends=True)
-    acknowledged = read_run(0, "".join(run), "").acknowledged
-    if ran.returncode or not 3 < acknowledged < 399:
+    *run, refused, has = ran.stdout.splitlines(keepends=True) or ["", ""]
+    acknowledged, times = read_run(0, "".join(run), "").acknowledged, int(refused.partition(" ")[2] or 0)
+    # With compactions it may go on for ever.
+    ends = full.compact < FOR_GOOD or acknowledged < 399
+    if ran.returncode or acknowledged <= 3 or not times or not ends:
         raise Wrong(f"status {ran.returncode} after change {acknowledged}: {ran.stdout[-200:]}{ran.stderr[-300:]}")
     want_within("a full disk", int(has.split()[1]), acknowledged, acknowledged + full.sync)
-    return f"full after change {acknowledged}"
+    return f"{times} times full until change {acknowledged}"
