@@ -11,6 +11,7 @@ import fcntl
 import os
 import stat
 import time
+from collections.abc import Callable
 from contextlib import suppress
 from itertools import count
 from typing import Optional
@@ -18,6 +19,7 @@ from typing import Optional
 from ._answers import Limits
 from ._core import Core, limits_in
 from ._errors import BadJournal, ElephantError, JournalDamaged, JournalError, JournalLocked, JournalLost
+from ._space import FULL, NoSpace, allocate
 
 # In bytes: what a disk writes wholly or not at all, what a file system gives at once, and the space ahead.
 BLOCK, PAGE, LEAST_AHEAD, MOST_AHEAD = 512, 4096, 1 << 16, 1 << 20
@@ -33,6 +35,10 @@ _LIMITS_WITHIN = 128
 _NOTHING, _CUT, _DAMAGE = range(3)
 # How often a file that another process writes is read again, if it seems damaged.
 _TRIES, _PAUSE = 4, 0.01
+# How much more space is reserved than is asked for.
+_RESERVED_AT_ONCE = 1 << 20
+Look = Callable[[bytes, int, int], None]
+"""Gets the bytes of a file that was read, and where its changes begin and end."""
 
 
 def filling(start: int, end: int) -> bytes:
@@ -127,7 +133,12 @@ class Disk:
         """Whether an append or a longer space ahead was given up, so that there may be bytes after the changes."""
         self._stuck = ""
         """Why no sync can succeed any more: what the system couldn't write once, it may have dropped."""
-        self._has_unsynced = False
+        self.identity = (0, 0)
+        """The numbers of the open file and of its device."""
+        self.has_unsynced = False
+        """Whether there are changes that no sync has followed."""
+        self._reserved = 0
+        """Up to which byte the disk has space for the file, if that is more than its length."""
         self._deadline = time.monotonic() + wait
         try:
             self._find()
@@ -152,7 +163,7 @@ class Disk:
                 raise BadJournal(f"{self.path} is no regular file")
             if not self.read_only:
                 self._lock(self.file)
-            self._identity = found.st_ino, found.st_dev
+            self.identity = found.st_ino, found.st_dev
             self.path = os.path.realpath(self._given)
             with suppress(FileNotFoundError):
                 named = os.stat(self.path)
@@ -206,21 +217,25 @@ class Disk:
 
     # Reading.
 
-    def read(self, history: bool) -> Core:
+    def head(self, length: int) -> bytes:
+        """Returns the first bytes of the file."""
+        return self._load(length)
+
+    def read(self, history: bool, look: Optional[Look] = None) -> Core:
         """Returns the store that the file keeps, and ends the file after its last whole change."""
         self.is_new = False
         if not self.read_only:
             self._make_durable()
-            core = self._read_once(history)
+            core = self._read_once(history, look)
             # A kill may have come before a new file took this one's place.
             with suppress(OSError):
                 os.unlink(self._spare)
             return core
         for _ in range(_TRIES - 1):
             with suppress(JournalDamaged):
-                return self._read_once(history)
+                return self._read_once(history, look)
             time.sleep(_PAUSE)
-        return self._read_once(history)
+        return self._read_once(history, look)
 
     def _make_durable(self) -> None:
         """Makes that last what is read: the last owner may have been killed before it synced its changes, or the rename of the file."""
@@ -230,7 +245,7 @@ class Disk:
         except OSError as fault:
             raise JournalError(f"{self.path} can't be synced: {fault}") from fault
 
-    def _read_once(self, history: bool) -> Core:
+    def _read_once(self, history: bool, look: Optional[Look]) -> Core:
         data = self._load(None)
         try:
             core = open_bytes(data, history)
@@ -238,6 +253,8 @@ class Disk:
             raise BadJournal(f"{self.path} has none of a store, or its checkpoint is damaged") from None
         try:
             self._take_in(core, data)
+            if look is not None:
+                look(data, self.start, core.whole)
         except BaseException:
             core.free()
             raise
@@ -295,13 +312,42 @@ class Disk:
                 os.close(file)
         self.copy = copy
 
-    def _make_copy(self) -> tuple[str, int]:
+    def _make_copy(self, what: str = "damaged") -> tuple[str, int]:
         """Makes a file with the smallest number that is free. Returns its path and its number when open."""
         for number in count(1):
-            copy = f"{self.path}.damaged-{number}"
+            copy = f"{self.path}.{what}-{number}"
             with suppress(FileExistsError):
                 return copy, os.open(copy, os.O_WRONLY | os.O_CREAT | os.O_EXCL | os.O_CLOEXEC, 0o600)
         raise AssertionError("numbers have no end")
+
+    def set_aside(self, what: str) -> str:
+        """Gives the file another name beside it, which says what it is, and returns that. A file system without links gets a copy."""
+        for number in count(1):
+            aside = f"{self.path}.{what}-{number}"
+            with suppress(FileExistsError):
+                try:
+                    os.link(self.path, aside)
+                except FileExistsError:
+                    raise
+                except OSError:
+                    return self._copy_whole(what)
+                return aside
+        raise AssertionError("numbers have no end")
+
+    def _copy_whole(self, what: str) -> str:
+        copy, file = "", -1
+        try:
+            copy, file = self._make_copy(what)
+            _write_all(file, self._load(None), 0)
+            os.fsync(file)
+        except OSError as fault:
+            if copy:
+                os.unlink(copy)
+            raise JournalError(f"{self.path} can't be copied, so it stays as it is: {fault}") from fault
+        finally:
+            if file >= 0:
+                os.close(file)
+        return copy
 
     # Writing.
 
@@ -320,21 +366,23 @@ class Disk:
         if self._stuck:
             raise JournalError(f"{self._stuck}; compact it, or open it again")
 
-    def _require_ours(self) -> None:
+    def require_ours(self) -> None:
         """Raises JournalLost if the path names another file or none, or if somebody else changed the length."""
+        if self.read_only:
+            return
         try:
             named = os.stat(self.path)
         except OSError as fault:
             if fault.errno not in (errno.ENOENT, errno.ENOTDIR):
                 raise JournalError(f"{self.path} can't be found: {fault}") from fault
             raise JournalLost(f"{self.path} was deleted or renamed, so what is written to it would be lost") from fault
-        if (named.st_ino, named.st_dev) != self._identity or (self.is_sound and named.st_size != self._size):
+        if (named.st_ino, named.st_dev) != self.identity or (self.is_sound and named.st_size != self._size):
             raise JournalLost(f"{self.path} was replaced or changed by another program, so what is written to it would be lost")
 
     def append(self, text: bytes) -> None:
         """Adds a change. If it fails, the file is as before."""
         self.require_sync()
-        self._require_ours()
+        self.require_ours()
         if self._is_torn:
             self._cut_off()
         self._take_ahead(len(text))
@@ -342,7 +390,7 @@ class Disk:
         self._is_torn = True
         try:
             _write_all(self.file, text, self.length)
-            self._has_unsynced = True
+            self.has_unsynced = True
             if self._syncs_each:
                 self._sync_file()
         except OSError as fault:
@@ -360,7 +408,7 @@ class Disk:
         if self.read_only:
             return
         self.require_sync()
-        if self._has_unsynced:
+        if self.has_unsynced:
             self._sync_file()
 
     def _sync_file(self) -> None:
@@ -369,15 +417,18 @@ class Disk:
         except OSError as fault:
             self._stuck = f"{self.path} can't be synced: {fault}"
             raise JournalError(self._stuck) from fault
-        self._has_unsynced = False
+        self.has_unsynced = False
 
     def _take_ahead(self, length: int) -> None:
         """Takes space for so many bytes, and more. If the disk has none to take ahead, the append makes the file longer."""
         end, had = self.length + length, self._size
         if end <= had:
             return
+        least = end
         end += min(max(end // 4, LEAST_AHEAD), MOST_AHEAD) + PAGE - 1
         end -= end % PAGE
+        if least <= self._reserved < end:
+            end = self._reserved
         self._is_torn = True
         try:
             for place in range(had, end, MOST_AHEAD):
@@ -396,7 +447,8 @@ class Disk:
         except OSError as fault:
             self._is_torn = True
             raise JournalError(f"{self.path} can't be cut after its last whole change: {fault}") from fault
-        self._size = length
+        # That also gives back what was reserved.
+        self._size, self._reserved = length, 0
 
     def _cut_off(self) -> None:
         """Makes the file end where its changes do. It must be on the disk before anything is written there: else a crash could leave
@@ -414,6 +466,35 @@ class Disk:
             else:
                 self._cut_off()
 
+    def reserve(self, length: int) -> None:
+        """Makes sure that the disk has space for so many more bytes after the changes, if it can reserve space. Raises NoSpace."""
+        wanted = self.length + length
+        if wanted <= max(self._size, self._reserved):
+            return
+        for end in (wanted + _RESERVED_AT_ONCE, wanted + PAGE):
+            # Some file systems can't reserve: there, only an append finds out that the disk is full.
+            end -= end % PAGE
+            if allocate(self.file, self._size, end - self._size) not in FULL:
+                self._reserved = end
+                return
+        raise NoSpace
+
+    def begin_sync(self) -> int:
+        """Returns another number of the open file, to sync it while changes go on: see `end_sync`."""
+        self.require_sync()
+        file = os.dup(self.file)
+        self.has_unsynced = False
+        return file
+
+    def end_sync(self, file: int, fault: Optional[OSError]) -> None:
+        """Closes that number. `fault` says why the sync failed, if it did: that is so for good, if the file is still the same."""
+        try:
+            if fault is not None and self.file >= 0 and os.path.samestat(os.fstat(file), os.fstat(self.file)):
+                self._stuck = f"{self.path} can't be synced: {fault}"
+                raise JournalError(self._stuck) from fault
+        finally:
+            os.close(file)
+
     # Another file in place of this one.
 
     @property
@@ -421,19 +502,21 @@ class Disk:
         """The path of the file that takes this one's place."""
         return f"{self.path}.elephant-new"
 
-    def replace(self, text: bytes) -> None:
+    def replace(self, *texts: bytes) -> None:
         """Writes the bytes of a new file beside this one, and puts it in this one's place. If it fails, this one is as before. If only the
         last step does, the sync of the folder, the new one is there, and `require_sync` says so."""
-        spare, file = self._spare, -1
+        spare, file, length = self._spare, -1, 0
         try:
             # Its maker has this one's lock, so a file of that name is what a killed process left.
             with suppress(FileNotFoundError):
                 os.unlink(spare)
             file = os.open(spare, os.O_RDWR | os.O_CREAT | os.O_EXCL | os.O_CLOEXEC, 0o600)
             identity = self._dress(file)
-            _write_all(file, text, 0)
+            for text in texts:
+                _write_all(file, text, length)
+                length += len(text)
             os.fsync(file)
-            self._require_ours()
+            self.require_ours()
             os.rename(spare, self.path)
         except OSError as fault:
             self._drop(file, spare)
@@ -443,7 +526,7 @@ class Disk:
         except BaseException:
             self._drop(file, spare)
             raise
-        self._put_in_place(file, identity, len(text))
+        self._put_in_place(file, identity, length)
 
     def _dress(self, file: int) -> tuple[int, int]:
         """Gives a file the mode and the owner of this one, and a lock, so that no other opener gets in between. Returns its identity."""
@@ -464,9 +547,9 @@ class Disk:
 
     def _put_in_place(self, file: int, identity: tuple[int, int], length: int) -> None:
         self.leave()
-        self.file, self._identity = file, identity
+        self.file, self.identity = file, identity
         self._size = self.length = self.start = length
-        self._is_torn, self._stuck, self._has_unsynced = False, "", False
+        self._is_torn, self._stuck, self.has_unsynced, self._reserved = False, "", False, 0
         try:
             self._sync_folder()
         except OSError as fault:
@@ -483,9 +566,11 @@ class Disk:
 
     def close(self) -> None:
         """Closes the file, without its space ahead, and frees the lock."""
-        if self.file >= 0 and not self.read_only and self.is_sound and self._size > self.length:
+        if self.file >= 0 and not self.read_only and self.is_sound and max(self._size, self._reserved) > self.length:
             with suppress(OSError):
-                os.ftruncate(self.file, self.length)
+                # What another program has cut off isn't made longer.
+                if os.fstat(self.file).st_size == self._size:
+                    os.ftruncate(self.file, self.length)
         self.leave()
 
     def leave(self) -> None:

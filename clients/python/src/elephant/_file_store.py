@@ -127,25 +127,33 @@ class FileStore(Store):
 
     def _new_core(self) -> Core:
         """Returns the core of the file, or of a new one."""
-        if self._disk.is_empty:
-            return self._begin_file()
-        core = self._disk.read(self._has_history)
+        return self._begin_file() if self._disk.is_empty else self._read_file()
+
+    def _read_file(self) -> Core:
+        core = self._disk.read(self._has_history, self._look_at)
         self._opening, self._now = self._opening._replace(limits=self._disk.limits), core.now()
         closed = () if self.is_read_only else self._close_open(core, core.checkpoint)
         self.recovered = Recovered(self._disk.cut, closed, self._disk.copy)
         return core
 
+    def _look_at(self, data: bytes, start: int, end: int) -> None:
+        """Notices the bytes of a file that was read, and where its changes begin and end."""
+
     def _begin_file(self) -> Core:
         """Makes the file of a fresh store, whose first policy is that of a new journal."""
         try:
             core = super()._new_core()
-            word = LADDER.word.encode("ascii")
-            core.do(core.library.elephant_default, "/", b"/", 1, word, len(word))
+            self._set_first_policy(core)
             self._disk.begin(core.text_of(core.library.elephant_journal_begin), self._opening.limits)
         except BaseException:
             self._disk.unmake()
             raise
         return core
+
+    @staticmethod
+    def _set_first_policy(core: Core) -> None:
+        word = LADDER.word.encode("ascii")
+        core.do(core.library.elephant_default, "/", b"/", 1, word, len(word))
 
     @property
     def info(self) -> FileInfo:
@@ -254,18 +262,20 @@ class FileStore(Store):
             if self._core is not fresh:
                 fresh.free()
             raise
+        self._note_fresh()
+
+    def _note_fresh(self) -> None:
+        """Notes that the numbers were made anew."""
         self._renewed += 1
         self._renewal_time = _RenewalTime(self._disk.limits)
         self._disk.require_sync()
 
     def _take(self, core: Core) -> None:
         """Puts a core in the place of the one before, whose handles mean nothing in it."""
-        before, self._core = self._core, core
+        self._put(core)
         self._renewals += 1
         self._note_kept()
         self._note_renewal()
-        if before is not None:
-            before.free()
 
     # By itself.
 

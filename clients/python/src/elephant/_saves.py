@@ -150,11 +150,11 @@ class Saves(Parents):
         """Saves a whole content, by one line of the journal. A content that is too long for a line is written by a session."""
         if self._makes_hidden(core, name):
             require_shown(name)
-        line = None if self._journal is None else save_line(name, data)
-        if line is None and self._journal is not None:
+        line = b"save " + name if self._journal is None else save_line(name, data)
+        if line is None:
             return self._write(core, path, name, data, 0, len(data))
         version = core.ask(core.library.elephant_save, path, name, len(name), data, len(data))
-        self._keep(*(() if line is None else (line,)))
+        self._keep(line)
         return version
 
     @staticmethod

@@ -180,7 +180,7 @@ class Turns:
         replay, is_new = self._replay_in(core), True
         try:
             for change in journal.changes():
-                _run(replay, change, journal)
+                run_change(replay, change, journal)
                 is_new = False
         except JournalDamaged:
             if not self._opening.repair:
@@ -191,7 +191,7 @@ class Turns:
             core = self._new_core()
             replay = self._replay_in(core)
             for change in journal.again():
-                _run(replay, change, journal)
+                run_change(replay, change, journal)
         closed: list[ClosedSession] = []
         if self.is_read_only:
             journal.close()
@@ -390,7 +390,7 @@ class Turns:
             core = self._new_core()
             replay = Replay(core)
             for change in self._journal.again():
-                _run(replay, change, self._journal)
+                run_change(replay, change, self._journal)
             for lines in self._unjournaled():
                 replay.run(list(lines))
             self._set_clock(core, self._now)
@@ -420,6 +420,12 @@ class Turns:
             self._is_over = True
             self._journal.close()
 
+    def _put(self, core: Core) -> None:
+        """Puts a core in the place of the one before."""
+        before, self._core = self._core, core
+        if before is not None:
+            before.free()
+
     def _release(self) -> None:
         """Frees the store and closes the journal."""
         core, self._core = self._core, None
@@ -430,7 +436,7 @@ class Turns:
             self._journal.close()
 
 
-def _run(replay: Replay, change: list[bytes], journal: Journal) -> None:
+def run_change(replay: Replay, change: list[bytes], journal: Journal) -> None:
     """Runs a change of a journal. Raises JournalDamaged if it is none that a store makes."""
     line, _ = journal.next_place
     try:

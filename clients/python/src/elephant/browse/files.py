@@ -7,7 +7,7 @@ from collections.abc import Iterable
 from typing import NamedTuple, Optional
 
 from .. import LAST_MOMENT, ElephantError, FileStat, KeepAll, Policy, Version
-from .looking import Follower, LookedAt
+from .looking import LookedAt
 from .trees import find
 from .wording import Outcome, outcome_of
 
@@ -58,7 +58,7 @@ class VersionPart(NamedTuple):
 
 def now_of(store: LookedAt) -> int:
     """Returns the moment now. A store that is only read has the moment of its last change, and time goes on."""
-    return max(int(store.now), int(time.time())) if isinstance(store, Follower) else int(store.now)
+    return max(int(store.now), int(time.time())) if store.is_followed else int(store.now)
 
 
 def live_file(store: LookedAt, path: bytes, at: Optional[int]) -> Optional[FileStat]:

@@ -12,13 +12,15 @@ from typing import NamedTuple, Optional
 from .. import ElephantError, Entry, JournalDamaged, JournalError, Moment, Policy, Store, Version
 from .._answers import Limits
 from .._core import Core
+from .._events import Event, Front
 from .._forgetting import _GuardedReplay, _Memory
 from .._journal import Journal
 from .._library import NameRow, VersionRow
+from .._lives import Lives
 from .._moments import moment_or_none
 from .._names import name_of
 from .._replay import Replay
-from .._turns import Clock, _run
+from .._turns import Clock, run_change
 
 # Lines that change what a tree shows. A `close` may have made a version.
 _CHANGES = frozenset(b"create link unlink rename undelete mkdir rmdir close save revert restore".split())
@@ -52,15 +54,14 @@ class Notes:
         """By the number of the directory and the name as it is spelled."""
         self.revision = 0
         """A count that goes up with each change of the journal."""
+        self._read = 0
 
     def note(self, core: Core, lines: Sequence[bytes]) -> None:
         """Notes a change that the core has just made."""
         self.revision += 1
         if not any(line.partition(b" ")[0] in _CHANGES for line in lines):
             return
-        now = core.now()
-        if not self.moments or self.moments[-1] < now:
-            self.moments.append(now)
+        self._note_moment(core.now())
 
     def note_end(self, core: Core, line: bytes) -> None:
         """Notes that a line has ended a name."""
@@ -71,6 +72,34 @@ class Notes:
                 self.ends[int(core.stat("", parent or b"/").id), name] = Ended(core.now(), words[1])
             except ElephantError:
                 pass  # it has no parent any more, so nobody finds the name by it
+
+    def note_event(self, event: Event) -> None:
+        """Notes an event of a file. The close of a session counts as a change, which it mostly is."""
+        if event.word == b"clock":
+            self._read = event.values[0]
+        elif event.word in _CHANGES:
+            self._note_moment(self._read)
+
+    def note_remark(self, remark: bytes) -> None:
+        """Notes a remark of a mount, which may say when changes were made before the file was made anew."""
+        word, *words = remark.split(b" ")
+        for it in words if word == b"moments" else ():
+            if it.isdigit():
+                self._note_moment(int(it))
+
+    def _note_moment(self, moment: int) -> None:
+        if not self.moments or self.moments[-1] < moment:
+            self.moments.append(moment)
+
+    def note_front(self, front: Front) -> None:
+        """Notes which names of a store have ended, and the moments of the changes that its file has no events of."""
+        lives = Lives(front)
+        for row in lives.ended:
+            path = lives.path_of(row)
+            if path is not None and row.death is not None:
+                self.ends[row.parent, row.name] = Ended(row.death, path)
+        births = {it.birth for it in front.names}
+        self.moments = array("Q", sorted({*self.moments, *births, *(it.death for it in lives.ended if it.death is not None)}))
 
     def index_at(self, moment: int) -> int:
         """Returns how many of the moments are not after a moment."""
@@ -114,6 +143,8 @@ class LookedAt(Store):
     """A store that a page shows."""
 
     notes: Notes
+    is_followed = False
+    """Whether another program writes it."""
 
     def follow(self) -> None:
         """Takes in what another program has written to the journal since."""
@@ -221,6 +252,8 @@ class Opened(LookedAt):
 class Follower(LookedAt):
     """The store of a journal that another program writes: it reads on where it was, and writes nothing."""
 
+    is_followed = True
+
     def __init__(self, journal: str, *, limits: Optional[Limits] = None, history: bool = False) -> None:
         self.notes = Notes()
         super().__init__(journal, limits=limits, history=history, read_only=True)
@@ -229,7 +262,7 @@ class Follower(LookedAt):
         self.notes = Notes()
         self._replayed = _NotingReplay(core, self.notes)
         for change in journal.changes():
-            _run(self._replayed, change, journal)
+            run_change(self._replayed, change, journal)
         self._now = core.now()
         return core
 
@@ -253,7 +286,7 @@ class Follower(LookedAt):
 
     def _read_on(self, core: Core, journal: Journal) -> None:
         for change in journal.changes():
-            _run(self._replayed, change, journal)
+            run_change(self._replayed, change, journal)
             self._now = core.now()
 
     def _begin_anew(self) -> None:

@@ -6,10 +6,12 @@ import errno
 import os
 from abc import ABC, abstractmethod
 from collections.abc import Sequence
+from typing import Literal
 
 from .. import ElephantError, JournalError, JournalLocked
 from ..mount.client import ask, mount_of
 from ..mount.wording import line_of
+from .in_files import FileFollower, OpenedFile, is_of_lines
 from .looking import Follower, LookedAt, Opened
 
 
@@ -63,6 +65,18 @@ class Source(ABC):
         self.store.close()
 
 
+def _follower(journal: str, history: bool) -> LookedAt:
+    """Returns the store of a journal that another program writes."""
+    return Follower(journal, history=history) if is_of_lines(journal) else FileFollower(journal, history=history)
+
+
+def _opened(journal: str, history: bool, clock: Literal["manual", "system"]) -> LookedAt:
+    """Returns the store of a journal that this program writes."""
+    if is_of_lines(journal):
+        return Opened(journal, history=history, clock=clock)
+    return OpenedFile(journal, history=history, clock=clock)
+
+
 class JournalSource(Source):
     """A journal. If another program writes it, or it may only be read, it is only shown."""
 
@@ -70,7 +84,7 @@ class JournalSource(Source):
         self.name = os.path.basename(journal)
         if not read_only:
             try:
-                self.store = Opened(journal, history=history, clock="manual" if is_manual else "system")
+                self.store = _opened(journal, history, "manual" if is_manual else "system")
                 return
             except JournalLocked:
                 self.fault = "another program has the journal open"
@@ -79,7 +93,7 @@ class JournalSource(Source):
                     raise
                 self.fault = "the journal can't be written"
         self.fault = self.fault or "the page was opened to look"
-        self.store = Follower(journal, history=history)
+        self.store = _follower(journal, history)
 
     def _answer(self, words: Sequence[str]) -> str:
         return self.store.line(" ".join(words))
@@ -116,7 +130,7 @@ class MountSource(Source):
         self.fault = "the page was opened to look" if read_only else ""
         self._folder = mount_of(folder)
         self.name = os.path.basename(self._folder)
-        self.store = Follower(self._journal(), history=history)
+        self.store = _follower(self._journal(), history)
 
     def _journal(self) -> str:
         answer = ask(self._folder, "journal")
