@@ -261,6 +261,44 @@ def full_store(room: str, asked: argparse.Namespace) -> Counts:
     return seen.counts()
 
 
+def fresh_numbers(room: str, asked: argparse.Namespace) -> Counts:
+    """A store that has used nine tenths of a limit and holds little gets fresh numbers, and the folder goes on as it was, also for programs
+    that have it open."""
+    seen = Faults("fresh_numbers")
+    with Mounted(room, "--clean-every", "0.5", "--no-guard", "--limit", "versions=200") as mounted:
+        top, hidden = mounted.folder, mounted.folder / ".elephant"
+        mounted.ask("default", "/", "one")
+        (top / "d").mkdir(mode=0o750)
+        (top / "d" / "kept").write_text("kept")
+        os.symlink("d/kept", top / "link")
+        os.setxattr(top / "d" / "kept", "user.a", b"1")
+        before = _tree(top)
+        inodes = {name: (top / name).stat().st_ino for name in ("d", "d/kept")}
+        for number in range(185):
+            (top / "f").write_text(str(number))
+        when = next_second()
+        seen.expect("the moment before", (hidden / "at" / str(when) / "f").read_text(), "184")
+        deadline = time.monotonic() + 60
+        while "the store has fresh numbers" not in mounted.log() and time.monotonic() < deadline:
+            time.sleep(0.5)
+        seen.expect("the log", "the store has fresh numbers, since it had made" in mounted.log(), True)
+        row = next(it for it in (hidden / "limits").read_text().splitlines() if it.startswith("versions"))
+        seen.expect("the row in limits", int(row.split()[1]) < 10, True)
+        seen.expect("the folder", {name: it for name, it in _tree(top).items() if name != "f"}, before)
+        seen.expect("inode numbers", {name: (top / name).stat().st_ino for name in inodes}, inodes)
+        seen.expect("the moment after it", (hidden / "at" / str(when) / "f").read_text(), "184")
+        seen.expect("the versions", [(hidden / "versions" / "f" / it).read_text() for it in os.listdir(hidden / "versions" / "f")], ["184"])
+        (top / "f").write_text("later")
+        (top / "f").rename(top / "g")
+        (top / "d" / "kept").write_text("again")
+        seen.expect("an undo", mounted.ask("undo", "d/kept")[:3], "no:")  # the policy keeps only the newest
+        mounted.kill()
+        mounted.start()
+        seen.expect("after a kill", [(top / it).read_text() for it in ("g", "d/kept", "link")], ["later", "again", "again"])
+        seen.expect("its attributes", (os.getxattr(top / "link", "user.a"), (top / "d").stat().st_mode & 0o777), (b"1", 0o750))
+    return seen.counts()
+
+
 # A move.
 
 
@@ -429,8 +467,8 @@ def anew_while_open(room: str, asked: argparse.Namespace) -> Counts:
                 os.fsync(file.fileno())
             before = mounted.journal.stat().st_size
             told = mounted.ask("rewrite").split()
-            seen.expect("a rewrite", (told[:2], int(told[3]) * 4 < int(told[2])), (["ok", "journal"], True))
-            seen.expect("its lengths", (before <= int(told[2]) + 5000, mounted.journal.stat().st_size <= int(told[3]) + 5000), (True, True))
+            seen.expect("a rewrite", (told[:2], int(told[3]) * 3 < int(told[2])), (["ok", "journal"], True))
+            seen.expect("its lengths", (before >= int(told[2]), mounted.journal.stat().st_size), (True, int(told[3])))
             os.pwrite(file.fileno(), b"later", 10)
             os.fsync(file.fileno())
             content = os.pread(file.fileno(), 1 << 20, 0)
@@ -441,7 +479,7 @@ def anew_while_open(room: str, asked: argparse.Namespace) -> Counts:
         opened = os.open(mounted.folder / "db", os.O_RDWR)
         os.pwrite(opened, b"again", 0)
         os.fsync(opened)
-        seen.expect("another rewrite", mounted.ask("rewrite").split()[:2] in (["ok", "journal"], ["elephant-mount:", "it"]), True)
+        seen.expect("another rewrite", mounted.ask("rewrite").split()[:2], ["ok", "journal"])
         mounted.kill()
         with suppress(OSError):
             os.close(opened)
@@ -450,4 +488,4 @@ def anew_while_open(room: str, asked: argparse.Namespace) -> Counts:
     return seen.counts()
 
 
-CHECKS = [reads_only, full_store, moves, little_memory, lost_journal, anew_while_open, costs]
+CHECKS = [reads_only, full_store, fresh_numbers, moves, little_memory, lost_journal, anew_while_open, costs]

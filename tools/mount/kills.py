@@ -7,12 +7,13 @@ import subprocess
 import sys
 import time
 from pathlib import Path
-from zlib import crc32
 
 from mount.mounts import Counts, Mounted
 from mount.programs import next_second
 
 WORKER = Path(__file__).resolve().parent / "worker.py"
+# The bytes of a journal's head, of a length, and of a change beside its events: a length and two checks. And what the space ahead has.
+HEAD, LENGTH, FRAME, FILLING = 17, 8, 16, b"not written yet "
 
 
 def _is_begun(folder: Path, name: str) -> bytes | None:
@@ -75,15 +76,20 @@ def kills(room: str, asked: argparse.Namespace) -> Counts:
 
 
 def _tear(journal: Path) -> None:
-    """Adds a begun change to the end of a journal, as a machine that stops within a write leaves it. The kill may have torn it
-    already."""
-    *_, last, rest = journal.read_bytes().split(b"\n")
-    if rest or last[9:11] not in (b"= ", b"> "):
-        return
-    body = b"< create /never\n"
-    first = crc32(body, int(last[:8], 16))
-    with open(journal, "ab") as file:
-        file.write(b"%08x %b%08x - open wri" % (first, body, crc32(b"- open write /never\n", first)))
+    """Writes the beginning of a change where a journal's changes end, as a machine that stops within a write leaves it. The kill may have
+    torn it already."""
+    data = journal.read_bytes()
+    end = HEAD + LENGTH + int.from_bytes(data[HEAD:HEAD + LENGTH], "big")
+    while end + FRAME <= len(data):
+        following = end + FRAME + int.from_bytes(data[end:end + LENGTH], "big")
+        if following > len(data):
+            break
+        if data[following - 1] == FILLING[(following - 1) % len(FILLING)]:
+            return
+        end = following
+    with open(journal, "r+b") as file:
+        file.seek(end)
+        file.write(bytes(LENGTH - 1) + b"\x20\x01")
 
 
 def locked(room: str, asked: argparse.Namespace) -> Counts:
@@ -96,7 +102,7 @@ def locked(room: str, asked: argparse.Namespace) -> Counts:
         for folder, journal, wanted in (
             (other, mounted.journal, "is mounted already"), (mounted.folder, Path(room, "j2"), "is mounted already"),
             (WORKER.parent, Path(room, "j3"), "isn't empty"), (other, other / "j", "lies in the folder itself"),
-            (other, WORKER, "does not begin as a journal"),
+            (other, WORKER, "has none of a store"),
         ):
             words = mounted.words(folder, "--journal", journal)
             ran = subprocess.run(words, env=mounted.environment(), capture_output=True, text=True, timeout=60, check=False)

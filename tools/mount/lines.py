@@ -178,7 +178,7 @@ def audits(room: str, asked: argparse.Namespace) -> Counts:
         seen.expect("history", [it for it in ("- create /f", "- clean") if it not in history], [])
         seen.expect("answers", "- clean" in mounted.ask("answers").splitlines(), True)
         seen.expect("a rewrite", mounted.ask("rewrite").startswith("ok journal "), True)
-        seen.expect("gone afterwards", mounted.ask("gone").splitlines(), gone)
+        seen.expect("gone afterwards", mounted.ask("gone").splitlines(), ["ok gone 1 0"])
     return seen.counts()
 
 
@@ -208,9 +208,9 @@ def whose(room: str, asked: argparse.Namespace) -> Counts:
 
 
 def _notes(mounted: Mounted) -> list[str]:
-    """Returns the texts of the notes in the history of a mount."""
-    rows = (it for it in mounted.ask("answers").splitlines() if it.startswith("- note "))
-    return [it.split("  ", 1)[1] for it in rows]
+    """Returns the texts of the notes in the history of a mount, without those of the mount's own remarks."""
+    rows = (it.split("  ", 1) for it in mounted.ask("answers").splitlines() if it.startswith("- note "))
+    return [it[1] for it in rows if not it[1].startswith("#")]
 
 
 def _made(chance: random.Random, takes: Mapping[str, str]) -> str:

@@ -138,7 +138,7 @@ def limits(room: str, asked: argparse.Namespace) -> Counts:
         seen.expect("its log", "takes 66 bytes" in mounted.log(), True)
         found = os.statvfs(top)
         seen.expect("statvfs", (found.f_files, found.f_ffree, found.f_namemax), (3, 0, 64))
-        # A content takes twice its bytes in the journal. Others may write to the disk meanwhile.
+        # While the journal is made anew the disk has a content twice. Others may write to the disk meanwhile.
         disk = os.statvfs(room)
         free, wanted = found.f_bavail * found.f_frsize, disk.f_bavail * disk.f_frsize // 2
         seen.expect("free space", abs(free - wanted) < wanted // 20, True)

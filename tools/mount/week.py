@@ -44,6 +44,7 @@ REMOVED = re.compile(r"removed version \d+ of ")
 # What the log may say at any time: what is removed, and before that what will be.
 ALWAYS = (
     REMOVED, re.compile(r"within a day \d+ versions? (is|are) to be removed: .*; \.elephant/soon lists them$"),
+    re.compile(r"the journal was made anew in [0-9.]+ seconds: \d+ bytes before, \d+ now$"),
     re.compile(r"\d+ versions? (is|are) to be removed: .*; not before .*, or at once by the line 'clean all'; \.elephant/soon lists them$"),
 )
 MOUNTED = re.compile(r".* is mounted, with \d+ files; 'fusermount3 -u .*' ends it$")
@@ -429,9 +430,9 @@ class Week:
 
     def look_beside(self) -> None:
         """Does the same while both mounts have their journals, and do nothing."""
-        sizes: list[int] = []
-        while not sizes or sizes != [it.mounted.journal.stat().st_size for it in self.both]:
-            sizes = [it.mounted.journal.stat().st_size for it in self.both]
+        times: list[int] = []
+        while not times or times != [it.mounted.journal.stat().st_mtime_ns for it in self.both]:
+            times = [it.mounted.journal.stat().st_mtime_ns for it in self.both]
             time.sleep(0.5)
         self.look()
 

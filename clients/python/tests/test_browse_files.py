@@ -10,7 +10,8 @@ from pathlib import Path
 from unittest import mock
 
 import test_browse as lines
-from elephant import FileStore
+from elephant import FileStore, JournalError
+from elephant.mount.store import MountStore
 
 if lines.HAS_FLASK:
     from browsing import Served
@@ -82,8 +83,30 @@ class Changes(InFile):
             self.assertIn("has none of a store", str(caught.exception))
 
 
+class OfMount(unittest.TestCase):
+    """The journal of a mount, whose notes say what a new file has no events of."""
+
+    def test_the_moments_and_ends_of_one_that_was_made_anew(self) -> None:
+        with tempfile.TemporaryDirectory() as room:
+            journal = os.path.join(room, "journal")
+            store = MountStore(journal, clock="manual")
+            for moment, line in ((100, "create /a"), (200, "save /a 61"), (300, "unlink /a"), (400, "mkdir /d")):
+                store.clock(moment)
+                self.assertRegex(store.line(line), "^ok ")
+            store.compact()
+            store.clock(500)
+            store.line("create /d/b")
+            found = FileFollower(journal)
+            self.assertEqual(list(found.notes.moments), [100, 200, 300, 400, 500])
+            self.assertEqual({key: tuple(it) for key, it in found.notes.ends.items()}, {(0, b"a"): (300, b"/a")})
+            found.close()
+            opened = self.assertRaises(JournalError, OpenedFile, journal)
+            self.assertIsNone(opened)
+            store.close()
+
+
 if not lines.HAS_FLASK:
-    del InFile, Views, Changes
+    del InFile, Views, Changes, OfMount
 
 if __name__ == "__main__":
     unittest.main()

@@ -14,16 +14,16 @@ from typing import Callable, Optional
 from unittest import mock
 
 import elephant
+from anew import make_anew
 from clocks import clock_at
-from elephant import Full, JournalLocked, Limits, Store
-from elephant.keeping import HEADER, Clock, NoSpace, changes_in
+from elephant import FileStore, Full, JournalLocked, Limits
+from elephant.keeping import Clock, NoSpace
 from elephant.mount.contents import MOST_BYTES, Contents, Limited, TooBig
 from elephant.mount.drafts import BLOCK, changed_parts
 from elephant.mount.names import TooLong, name_in, spelled
 from elephant.mount.naming import NO_REPLACE, Naming
 from elephant.mount.past import Past, moment_of
 from elephant.mount.records import Attributes, Records, file_key, made, names_changed, saved, whole
-from elephant.mount.shorter import shorten
 from elephant.mount.store import MountStore
 from elephant.mount.tree import Directory, File, Tree
 
@@ -345,7 +345,7 @@ class Limits_(Case):
     def test_a_full_disk_refuses_before_it_changes_anything(self) -> None:
         it = self.mount()
         node = it.open(it.save(b"f", b"one"))
-        with mock.patch("elephant._journal.allocate", lambda *_: errno.ENOSPC), self.assertRaises(NoSpace):
+        with mock.patch("elephant._disk.allocate", lambda *_: errno.ENOSPC), self.assertRaises(NoSpace):
             it.contents.write(node, 0, bytes(MOST_BYTES))
         it.contents.closed(node, True)
         self.assertEqual(it.read(b"f"), b"one")
@@ -354,7 +354,7 @@ class Limits_(Case):
     def test_what_the_journal_lacks_is_written_when_that_works_again(self) -> None:
         it = self.mount()
         it.save(b"f", b"one")
-        with mock.patch("os.write", side_effect=OSError(errno.EIO, "a fault")), self.assertRaises(elephant.JournalError):
+        with mock.patch("os.pwrite", side_effect=OSError(errno.EIO, "a fault")), self.assertRaises(elephant.JournalError):
             it.make(b"g")
         self.assertTrue(it.store.stopped)
         self.assertEqual(it.read(b"f"), b"one")
@@ -389,7 +389,7 @@ class Again(Case):
     def test_a_plain_store_opens_the_journal(self) -> None:
         self.fill(self.mount())
         self.unmount()
-        with Store(journal=self.journal, clock="manual") as store:
+        with FileStore(self.journal, clock="manual") as store:
             self.assertEqual(store.read("/d \udcff/f@"), b"two")
             self.assertEqual(store.read("/link"), b"d/nowhere")
         self.assertEqual(self.mount().read(b"hard"), b"two")
@@ -429,9 +429,9 @@ class Again(Case):
 
 
 class Anew(Case):
-    def shortened(self, it: Mounted) -> Path:
+    def made_anew(self) -> Path:
         new = self.journal.with_name("new")
-        shorten(str(self.journal), it.store.journal_size, str(new))
+        make_anew(self.journal, new)
         return new
 
     def test_contents_that_nobody_needs_are_left_out(self) -> None:
@@ -442,10 +442,10 @@ class Anew(Case):
         while it.store.clean():
             pass
         before, size = it.all(), it.store.journal_size
-        new = self.shortened(it)
-        # Of 20 contents of 100,000 digits one is left.
-        self.assertGreater(size, 2_000_000)
-        self.assertLess(new.stat().st_size, 120_000)
+        new = self.made_anew()
+        # Of 20 contents of 50,000 bytes one is left.
+        self.assertGreater(size, 1_000_000)
+        self.assertLess(new.stat().st_size, 60_000)
         again = Mounted(new)
         self.assertEqual((again.all(), again.store.quota.used), (before, it.store.quota.used))
         with self.assertRaises(elephant.Forgotten):
@@ -460,7 +460,7 @@ class Anew(Case):
                 it = self.mount()
                 self.random_changes(random.Random(seed), it)
                 before = it.all()
-                again = Mounted(self.shortened(it))
+                again = Mounted(self.made_anew())
                 self.assertEqual(again.all(), before)
                 again.close()
                 self.journal.with_name("new").unlink()
@@ -491,26 +491,6 @@ class Anew(Case):
             it.rename(name, drawn.choice([b"a", b"b", b"c", b"d"]))
         else:
             it.store.pass_(drawn.randrange(4))
-
-    def test_a_damaged_journal_is_not_made_anew(self) -> None:
-        it = self.mount()
-        it.save(b"f", b"one" * 1000)
-        data = bytearray(self.journal.read_bytes())
-        data[len(HEADER) + 40] ^= 1
-        self.journal.write_bytes(data)
-        with self.assertRaises(elephant.JournalError):
-            self.shortened(it)
-
-    def test_changes_from_the_middle_of_a_journal(self) -> None:
-        it = self.mount()
-        it.save(b"f", b"one")
-        size = it.store.journal_size
-        it.save(b"g", b"two")
-        whole_ = list(changes_in(str(self.journal), it.store.journal_size))
-        first = list(changes_in(str(self.journal), size))
-        rest = list(changes_in(str(self.journal), it.store.journal_size, size))
-        self.assertEqual(first + rest, whole_)
-        self.assertTrue(first and rest)
 
 
 class Command(Case):

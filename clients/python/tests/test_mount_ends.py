@@ -3,11 +3,12 @@
 from __future__ import annotations
 
 import ctypes
+import errno
 import os
 import subprocess
 import sys
 import unittest
-from collections.abc import Callable, Iterable
+from collections.abc import Callable
 from contextlib import AbstractContextManager
 from itertools import count
 from pathlib import Path
@@ -15,17 +16,16 @@ from typing import Any, Union, cast
 from unittest import mock
 
 import elephant
+from anew import make_anew
 from elephant import Counts as Made, Full, JournalError, JournalLost, KeepOne, KeepSafe, Limits, Moment, NoMemory
 from elephant._errors import LIMIT_NAMES
-from elephant.keeping import Core, Journal, changes_in, write_lines
+from elephant.keeping import Core
 from elephant.mount import drafts, memory
 from elephant.mount.ages import Ages
-from elephant.mount.comparing import Side, compare
 from elephant.mount.contents import MOST_BYTES, Limited
 from elephant.mount.counts import Counts
 from elephant.mount.moving import everything_of, move
 from elephant.mount.naming import EXCHANGE
-from elephant.mount.shorter import Census, shorten
 from elephant.mount.store import MountStore
 from elephant.mount.tree import Directory, File, Tree
 from elephant.mount.undo import Undo
@@ -90,7 +90,7 @@ print(has_memory(50 << 20), has_memory(200 << 20), has_memory(50 << 20))
         self.assertEqual((ran.stdout, ran.stderr), ("True False True\n", ""))
 
     def test_an_append_without_memory_stops_changes_until_there_is_some(self) -> None:
-        for where in ("elephant._journal._spelled", "os.write"):
+        for where in ("elephant._core.Core.text_of", "os.pwrite"):
             it = self.mount()
             it.save(b"f", b"one")
             with mock.patch(where, side_effect=MemoryError), self.assertRaises(JournalError) as caught:
@@ -111,12 +111,14 @@ print(has_memory(50 << 20), has_memory(200 << 20), has_memory(50 << 20))
         it.contents.write(node, 0, b"x")
         it.contents.write(node, 8192, b"y")  # the block between them stays
 
-        def some(handle: int, offset: int, data: bytes) -> list[bytes]:
-            if next(calls):
-                raise MemoryError
-            return write_lines(handle, offset, data)
+        do = Core.do
 
-        with mock.patch.object(drafts, "write_lines", some), self.assertRaises(NoMemory):
+        def some(core: Core, call: Any, subject: object, *words: object) -> None:
+            if call.__name__ == "elephant_write" and next(calls):
+                raise MemoryError
+            do(core, call, subject, *words)
+
+        with mock.patch.object(Core, "do", some), self.assertRaises(NoMemory):
             it.contents.save(node)
         copy = self.journal.with_name("copy")
         copy.write_bytes(self.journal.read_bytes())
@@ -350,6 +352,8 @@ class TakenBack(Case):
                 answer = self.REQUESTS[request](it, folder)
             except (elephant.ElephantError, OSError, Nothing):
                 pass
+        if it.store.stopped:  # the change is done, and the journal gets it as soon as there is memory for its text
+            self.assertTrue(it.store.retry())
         list(it.tree.refresh())
         found = self.shown(it)
         self.assertEqual(it.store.stopped, "")
@@ -389,7 +393,7 @@ class TakenBack(Case):
 class Failing:
     """A library whose nth call of those that may return a code returns it, and does nothing."""
 
-    NEVER = tuple(f"elephant_{it}" for it in ("delete", "detail", "counts", "now", "take", "answer", "row", "rung"))
+    NEVER = tuple(f"elephant_{it}" for it in ("delete", "detail", "counts", "now", "take", "answer", "row", "rung", "journal_written"))
     OF_LIMITS = tuple(f"elephant_{it}" for it in ("create", "mkdir", "link", "rename", "undelete", "open_write", "open_read", "revert"))
 
     def __init__(self, library: Any, number: int, code: int) -> None:
@@ -418,12 +422,7 @@ class Failing:
 
 
 class Anew(Case):
-    def shortened(self) -> Path:
-        assert self.mounted is not None
-        new = self.journal.with_name("new")
-        new.unlink(missing_ok=True)
-        shorten(str(self.journal), self.mounted.store.journal_size, str(new))
-        return new
+    """A journal that is made anew while files are open."""
 
     def test_open_files_are_in_it_with_what_they_have(self) -> None:
         it = self.mount()
@@ -437,13 +436,12 @@ class Anew(Case):
         it.contents.save(other)
         it.contents.truncate(other, 2)
         it.contents.save(other)
-        size = it.store.journal_size
-        new = self.shortened()
+        size, new = it.store.journal_size, self.journal.with_name("new")
+        make_anew(self.journal, new)
         self.assertLess(new.stat().st_size, size // 3)
         again = Mounted(new)
         self.addCleanup(again.store.close)
         self.assertEqual((again.read(b"f"), again.read(b"g")), (it.contents.whole(node), b"ne"))
-        self.assertEqual(again.store.recovered.closed, tuple(elephant.ClosedSession(f"/{name}", 3) for name in "fg"))
         it.contents.closed(node, True)
         self.assertEqual([again.versions(name) for name in (b"f", b"g")][0], it.versions(b"f"))
 
@@ -452,19 +450,21 @@ class Anew(Case):
         node = it.open(it.save(b"f", b"one" * 3000))
         it.contents.write(node, 5, b"XX")
         it.contents.save(node)
-        new, size = self.shortened(), it.store.journal_size
+        before = self.journal.stat()
+        it.store.compact()
+        self.assertFalse(os.path.samestat(self.journal.stat(), before))
+        copy = self.journal.with_name("copy")
+        copy.write_bytes(self.journal.read_bytes())
         it.contents.write(node, 7, b"YY")
         it.contents.closed(node, True)
-        journal = Journal(str(new), False, 0.0)
-        for _ in journal.changes():
-            pass
-        for change in changes_in(str(self.journal), it.store.journal_size, size):
-            journal.append(change)
-        journal.close()
-        before = it.all(), it.versions(b"f")
-        again = Mounted(new)
-        self.addCleanup(again.store.close)
-        self.assertEqual((again.all(), again.versions(b"f")), before)
+        wanted = [b"", b"one" * 3000, b"oneonXXYY" + b"one" * 2997]
+        self.assertEqual(it.versions(b"f"), wanted)
+        shown = it.all()
+        self.assertEqual((self.mount().versions(b"f"), self.mounted is not None and self.mounted.all()), (wanted, shown))
+        killed = Mounted(copy)
+        self.addCleanup(killed.store.close)
+        self.assertEqual(killed.versions(b"f"), [*wanted[:2], b"oneonXXne" + b"one" * 2997])
+        self.assertEqual(killed.store.recovered.closed, (elephant.ClosedSession("/f", 3),))
 
     def test_a_session_without_a_change_makes_no_version_in_it(self) -> None:
         it = self.mount()
@@ -472,51 +472,28 @@ class Anew(Case):
         with it.store.changing() as (core, lines):
             core.ask(core.library.elephant_open_write, "", b"/f", 2)
             lines.append(b"open write /f")
-        again = Mounted(self.shortened())
+        new = self.journal.with_name("new")
+        make_anew(self.journal, new)
+        again = Mounted(new)
         self.addCleanup(again.store.close)
         self.assertEqual(again.versions(b"f"), [b"", b"one"])
 
-    def test_each_difference_is_found(self) -> None:
-        """Journals that differ in one thing, of each kind that a new journal has to keep."""
-        base = [
-            "clock 5", "mkdir /d", "create /d/f", "open write /d/f", "write 1 0 6f6e65", "close 1", "clock 9", "create /g", "open write /g",
-            "write 2 0 74776f", "close 2", "clock 12", "unlink /g", "group make a", "group add a /d/f", "clock 20", "mark a 9", "clock 30",
-        ]
-
-        def compared(lines: list[str], others: list[str], remarks: Iterable[bytes] = (), of_other: Iterable[bytes] = ()) -> None:
-            old, new = counted(lines, remarks), counted(others, of_other)
-            left, right = (Side(it.core, it.records, it) for it in (old, new))
-            compare(left, right, old, new)
-
-        def counted(lines: list[str], remarks: Iterable[bytes]) -> Census:
-            census = Census(Core(Limits(), False))
-            census.run([it.encode() for it in lines])
-            for it in remarks:
-                census.remark(it)
-            return census
-
-        def without(line: str) -> list[str]:
-            found = [it for it in base if it != line]
-            return found
-
-        attributes = [b"attr f1 100644 1 2 3 4 5"]
-        compared(base, base, attributes, attributes)
-        others = {
-            "a deleted name": without("unlink /g"), "a number": [*base[:-1], "create /x", "unlink /x", base[-1]],
-            "a group": without("group add a /d/f"),
-            "a mark": without("mark a 9"), "a policy": [*base, "policy /d/f all"], "a default": [*base, "default /d one"],
-            "the content of a deleted file": [it.replace("74776f", "747777") for it in base], "a moment": [*base[:-1], "clock 31"],
-            "a past": [it.replace("clock 12", "clock 13") for it in base], "an open session": [*base, "open write /d/f"],
-        }
-        for what, lines in others.items():
-            with self.subTest(what), self.assertRaises(JournalError):
-                compared(base, lines)
-        differing: list[list[bytes]] = [
-            [b"attr f1 100600 1 2 3 4 5"], [*attributes, b"xattr f1 5 757365722e61 =31"], [b"attr f1 100644 1 2 3 9 5"],
-        ]
-        for other in differing:
-            with self.assertRaises(JournalError):
-                compared(base, base, attributes, other)
+    def test_one_that_fails_leaves_the_old_one_and_changes_go_on(self) -> None:
+        it = self.mount()
+        node = it.open(it.save(b"f", b"one"))
+        it.contents.write(node, 0, b"two")
+        it.contents.save(node)
+        before = self.journal.stat()
+        for name in ("fsync", "rename", "pwrite"):
+            with mock.patch(f"os.{name}", side_effect=OSError(errno.ENOSPC, os.strerror(errno.ENOSPC))):
+                with self.assertRaises(JournalError):
+                    it.store.compact()
+        self.assertTrue(os.path.samestat(self.journal.stat(), before))
+        self.assertEqual([it.name for it in self.journal.parent.iterdir()], ["journal"])
+        it.contents.closed(node, True)
+        it.save(b"g", b"three")
+        before_all = it.all()
+        self.assertEqual(self.mount().all(), before_all)
 
 
 class Moves(Case):

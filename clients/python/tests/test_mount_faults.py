@@ -6,17 +6,16 @@ import errno
 import os
 import random
 import unittest
-from pathlib import Path
 from typing import Any, Union
 from unittest import mock
 
 import elephant
+from anew import changes_since, make_anew
 from clocks import clock_at
-from elephant.keeping import NoSpace, changes_in
+from elephant.keeping import NoSpace
 from elephant.mount.contents import MOST_BYTES, Limited
 from elephant.mount.naming import EXCHANGE, MOST_EXTENDED, TooMuch
 from elephant.mount.past import PastNode
-from elephant.mount.shorter import shorten
 from elephant.mount.tree import Directory
 from test_mount import FOLDER, Case, Mounted
 
@@ -25,22 +24,17 @@ def fails(number: int) -> mock.Mock:
     return mock.Mock(side_effect=OSError(number, os.strerror(number)))
 
 
-def changes_since(journal: Path, it: Mounted, size: int) -> list[object]:
-    return list(changes_in(str(journal), it.store.journal_size, size))
-
-
 class Journals(Case):
     def test_only_its_owner_may_read_a_new_journal(self) -> None:
         self.mount()
         self.assertEqual(self.journal.stat().st_mode & 0o777, 0o600)
 
     def test_a_sync_that_fails_stops_the_changes_for_good(self) -> None:
-        it = self.mount()
-        it.save(b"f", b"one")
-        for sync in (it.store.sync_journal_aside, it.store.sync_journal):
-            it.store.stopped, it.store._is_sync_lost = "", False
+        for name in ("sync_journal_aside", "sync_journal"):
+            it = self.mount()
+            it.save(b"f", b"one")
             with mock.patch("os.fdatasync", fails(errno.EIO)), self.assertRaises(elephant.JournalError):
-                sync()
+                getattr(it.store, name)()
             self.assertIn("can't be synced", it.store.stopped)
             # The system says so once: what asks later has to hear it too.
             with self.assertRaises(elephant.JournalError):
@@ -50,8 +44,8 @@ class Journals(Case):
     def test_what_a_failed_write_left_is_cut_off_before_the_next(self) -> None:
         it = self.mount()
         it.save(b"f", b"one")
-        write, cut = os.write, os.ftruncate
-        half = mock.patch("os.write", lambda file, data: write(file, data[:9]) if len(data) > 9 else fails(errno.EIO)())
+        write, cut = os.pwrite, os.ftruncate
+        half = mock.patch("os.pwrite", lambda file, data, place: write(file, data[:9], place) if len(data) > 9 else fails(errno.EIO)())
         with half, mock.patch("os.ftruncate", fails(errno.EIO)), self.assertRaises(elephant.JournalError):
             it.make(b"g")
         with mock.patch("os.ftruncate", fails(errno.EIO)):
@@ -63,7 +57,7 @@ class Journals(Case):
     def test_a_full_quota_refuses_before_anything_changes(self) -> None:
         it = self.mount()
         node = it.open(it.save(b"f", b"one"))
-        with mock.patch("elephant._journal.allocate", lambda *_: errno.EDQUOT), self.assertRaises(NoSpace):
+        with mock.patch("elephant._disk.allocate", lambda *_: errno.EDQUOT), self.assertRaises(NoSpace):
             it.contents.write(node, 0, bytes(MOST_BYTES))
 
     def test_a_draft_that_can_not_be_saved_keeps_no_other_back(self) -> None:
@@ -101,15 +95,15 @@ class Journals(Case):
         it.rename(b"f", b"f~")
         size = it.store.journal_size
         it.make(b"f")
-        self.assertEqual(len(changes_since(self.journal, it, size)), 1)
+        self.assertEqual(len(changes_since(self.journal, it.store.journal_size, size)), 1)
         it.contents.settle_all()
         it.naming.unlink(it.top, b"f")
         size = it.store.journal_size
         it.make(b"f")
-        self.assertEqual(len(changes_since(self.journal, it, size)), 1)
+        self.assertEqual(len(changes_since(self.journal, it.store.journal_size, size)), 1)
         size = it.store.journal_size
         it.naming.symlink(it.top, b"link", b"to", 0, 0)
-        self.assertEqual(len(changes_since(self.journal, it, size)), 1)
+        self.assertEqual(len(changes_since(self.journal, it.store.journal_size, size)), 1)
 
     def test_an_undo_and_an_undelete_count_their_versions(self) -> None:
         it = self.mount()
@@ -137,7 +131,7 @@ class Journals(Case):
                     it.save(name, drawn.randbytes(drawn.choice([0, 1, 9000])))
                 it.store.pass_(drawn.randrange(3))
         new = self.journal.with_name("new")
-        shorten(str(self.journal), it.store.journal_size, str(new))
+        make_anew(self.journal, new)
         again = Mounted(new)
         self.addCleanup(again.store.close)
         places = [(b"/" + name, moment) for name in (b"a", b"b", b"c") for moment in range(2_000_000_000, clock)]
@@ -318,7 +312,7 @@ class Exchanging(Case):
         it.save(b"g", b"two", inner)
         size, used = it.store.journal_size, it.store.quota.used["names"]
         it.naming.rename(it.top, b"f", folder, b"e", EXCHANGE)
-        self.assertEqual(len(changes_since(self.journal, it, size)), 1)
+        self.assertEqual(len(changes_since(self.journal, it.store.journal_size, size)), 1)
         self.assertEqual(it.store.quota.used["names"], used + 3)
         self.assertEqual((it.top.children[b"f"], folder.children[b"e"]), (inner, node))
         self.assertEqual((it.top.subdirectories, folder.subdirectories, inner.path, node.path), (2, 0, b"/f", b"/d/e"))
@@ -376,7 +370,7 @@ class Extended(Case):
         it = self.mount()
         it.naming.set_extended(it.save(b"f", b"one"), b"user.a", b"1")
         new = self.journal.with_name("new")
-        shorten(str(self.journal), it.store.journal_size, str(new))
+        make_anew(self.journal, new)
         again = Mounted(new)
         self.addCleanup(again.store.close)
         self.assertEqual(again.top.children[b"f"].attributes.extended, {b"user.a": b"1"})
@@ -390,7 +384,7 @@ class Extended(Case):
         self.assertEqual(caught.exception.errno, errno.ENOSPC)
         size = it.store.journal_size
         it.save(b"g", b"two")
-        self.assertTrue(changes_since(self.journal, it, size))
+        self.assertTrue(changes_since(self.journal, it.store.journal_size, size))
         self.assertEqual(list(self.mount().file(b"f").attributes.extended or ()), [b"user.a"])
 
 

@@ -116,7 +116,7 @@ class Helping(Case):
             self.assertEqual(self.printed("--at", "nowhere", f"help {name}"), page)
         self.assertEqual(len(re.findall("^Line: ", self.printed("help", "group"), re.M)), 4)
         self.assertIn("Answer: ok file F\n", self.printed("help", "create"))
-        self.assertIn("mount with --history", self.printed("help", "gone"))
+        self.assertIn("mount with --history", " ".join(self.printed("help", "gone").split()))
 
     def test_the_list_has_each_line(self) -> None:
         page = self.printed("help")

@@ -19,6 +19,7 @@ try:
 except ImportError:
     raise unittest.SkipTest("there is no pyfuse3 for this Python") from None
 
+from anew import make_anew
 from clocks import DAY, START, FalseClocks
 from elephant import Limits
 from elephant.mount import client, main
@@ -28,7 +29,6 @@ from elephant.mount.control import Lines
 from elephant.mount.operations import Operations
 from elephant.mount.past import NotBegun, PastNode
 from elephant.mount.reasons import UNITS
-from elephant.mount.shorter import shorten
 from elephant.mount.store import MountStore
 from test_mount import FOLDER, MEMORY, Mounted
 from test_mount_typed import Berlin
@@ -85,7 +85,7 @@ class Case(Berlin):
         self.mount()
         self.it.close()
         new = self.journal.with_name("new")
-        shorten(str(self.journal), self.journal.stat().st_size, str(new))
+        make_anew(self.journal, new)
         self.mount(new)
 
 
@@ -569,8 +569,14 @@ class Auditing(Case):
         self.save(b"f", b"one")
         self.assertEqual(self.ask("note 77686f"), "ok done\n")
         self.assertEqual(self.ask("history").splitlines().count("- note 77686f"), 1)
-        self.again()
+        self.mount()
         self.assertEqual(self.ask("history").splitlines().count("- note 77686f"), 1)
+
+    def test_a_note_of_the_mount_is_no_line(self) -> None:
+        self.save(b"f", b"one")
+        for text in (b"# attr f1 100777 0 0 1 1 1", b"#+attr", b"# "):
+            self.assertRegex(self.ask(f"note {text.hex()}"), "^elephant-mount: .* one of the mount's own\n$")
+        self.assertEqual(self.ask("note 23"), "ok done\n")
 
     def test_the_lines_of_an_audit(self) -> None:
         self.save(b"f", b"one", b"two")
@@ -603,15 +609,20 @@ class Auditing(Case):
         self.assertEqual(len(self.ask("gone").splitlines()), 3)
         self.assertEqual(self.ask("gone now"), "bad 32 Syntax\n- number of words: the command takes no words\n")
 
-    def test_it_has_what_was_before_it_and_before_a_journal_was_made_anew(self) -> None:
+    def test_it_has_what_was_before_it_since_the_journal_was_made_anew(self) -> None:
         self.save(b"f", b"one", b"two", b"three")
         self.ask("policy /f one")
         while self.it.store.clean():
             self.clocks.pass_by(10)
         before = self.ask("gone")
         self.assertEqual(len(before.splitlines()), 4)
-        self.again()
+        self.mount()
         self.assertEqual(self.ask("gone"), before)
+        self.again()
+        self.assertEqual(self.ask("gone"), "ok gone 1 0\n")
+        self.save(b"f", b"four")
+        self.ask("clean")
+        self.assertEqual(len(self.ask("gone").splitlines()), 2)
 
     def test_trim_forgets_until_the_next_change(self) -> None:
         self.save(b"f", b"one")

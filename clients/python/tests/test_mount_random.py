@@ -10,10 +10,11 @@ from functools import partial
 from typing import Callable
 
 import elephant
+from anew import make_anew
 from clocks import clock_at
+from elephant._disk import start_of
 from elephant.mount.naming import EXCHANGE
 from elephant.mount.past import Past, PastNode
-from elephant.mount.shorter import shorten
 from elephant.mount.tree import Directory, File, Node
 from test_mount import FOLDER, Case, Mounted
 
@@ -118,7 +119,7 @@ class Random(Case):
     def compare(self, it: Mounted, moments: dict[int, dict[object, object]], drawn: random.Random) -> None:
         before, used = it.all(), dict(it.store.quota.used)
         new, cut = self.journal.with_name("new"), self.journal.with_name("cut")
-        shorten(str(self.journal), it.store.journal_size, str(new))
+        make_anew(self.journal, new)
         it.close()
         for journal in (self.journal, new):
             again = Mounted(journal)
@@ -129,7 +130,7 @@ class Random(Case):
         new.unlink()
         data = self.journal.read_bytes()
         for _ in range(5):
-            cut.write_bytes(data[:drawn.randrange(60, len(data))])
+            cut.write_bytes(data[:drawn.randrange(start_of(data), len(data))])
             again = Mounted(cut)
             self.assertEqual(list(again.tree.refresh()), [])
             again.close()

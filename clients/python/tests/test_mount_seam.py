@@ -13,8 +13,9 @@ from typing import Any
 from unittest import mock
 
 import elephant
+from anew import changes_since
 from elephant import NoMemory
-from elephant.keeping import write_lines
+from elephant.keeping import Core
 from elephant.mount import drafts
 from elephant.mount.past import PastNode
 from elephant.mount.undo import Undo
@@ -243,10 +244,9 @@ class Reads(Counted):
         return counting
 
     def changes(self, it: Mounted, size: int) -> list[bytes]:
-        """Returns the words of the lines since, without contents, clocks and remarks."""
-        found = elephant.keeping.changes_in(str(self.journal), it.store.journal_size, size)
-        lines = [line for change in found for line in change if not line.startswith((b"#", b"clock"))]
-        return [b" ".join(line.split()[:3]) for line in lines]
+        """Returns the words of the lines since, without contents, clocks and notes."""
+        lines = [line for change in changes_since(self.journal, it.store.journal_size, size) for line in change]
+        return [b" ".join(line.split()[:3]) for line in lines if not line.startswith(b"note")]
 
     def test_a_write_reads_the_old_version_once(self) -> None:
         it = self.mount()
@@ -254,7 +254,7 @@ class Reads(Counted):
         it.contents.forget_read()
         size = it.store.journal_size
         self.assertEqual(self.write(it, b"f", 8192, b"x").reads(), 1)
-        self.assertEqual(self.changes(it, size), [b"open write /f", b"write 2 8192", b"write 2 12192", b"close 2"])
+        self.assertEqual(self.changes(it, size), [b"open write /f", b"write 2 8192", b"close 2"])
         self.assertEqual(it.read(b"f"), bytes(8192) + b"x" + bytes(4095))
         before = it.versions(b"f")
         self.assertEqual(self.mount().versions(b"f"), before)
@@ -293,9 +293,9 @@ class Reads(Counted):
             it.contents.save(node)
             it.contents.closed(node, True)
         self.assertEqual(counting.reads(), 1)
-        writes = [line for line in self.changes(it, size) if not line.endswith(b"96")]
-        self.assertEqual(self.changes(it, size)[0], b"open write /f")
-        self.assertEqual([line for line in writes if line.startswith((b"truncate", b"close"))], [b"truncate 2 5000", b"close 2"])
+        self.assertEqual(self.changes(it, size), [
+            b"open write /f", b"write 2 0", b"write 2 4096", b"write 2 0", b"write 2 8192", b"write 2 0", b"truncate 2 5000", b"close 2",
+        ])
         wanted = [b"", bytes(12_288), (b"x" + bytes(4095)) * 2]
         wanted[2] = wanted[2][:5000]
         self.assertEqual(it.versions(b"f"), wanted)
@@ -328,15 +328,15 @@ class Parts(Counted):
     """Drafts of which the store has a part that no version has."""
 
     def failing(self, good: int) -> Any:
-        """Makes the lines of a content run out of memory after so many parts."""
-        left = iter(range(good))
+        """Makes memory run out after so many parts of a content."""
+        left, do = iter(range(good)), Core.do
 
-        def some(handle: int, offset: int, data: bytes) -> list[bytes]:
-            if next(left, None) is None:
-                raise MemoryError
-            return write_lines(handle, offset, data)
+        def some(core: Core, call: Any, subject: object, *words: object) -> None:
+            if call.__name__ == "elephant_write" and next(left, None) is None:
+                raise NoMemory("a part")
+            do(core, call, subject, *words)
 
-        return mock.patch.object(drafts, "write_lines", some)
+        return mock.patch.object(Core, "do", some)
 
     def test_a_save_that_fails_twice_loses_no_part(self) -> None:
         it = self.mount()

@@ -20,6 +20,7 @@ except ImportError:
     raise unittest.SkipTest("there is no pyfuse3 for this Python") from None
 
 from elephant import JournalError
+from elephant._disk import Disk
 from elephant.mount.operations import Operations
 from elephant.mount.store import MountStore
 from elephant.mount.tree import File
@@ -30,13 +31,14 @@ class Syncs(unittest.TestCase):
     """The requests of the kernel over a store whose journal is a file of this test's own."""
 
     def setUp(self) -> None:
-        file = tempfile.TemporaryFile()
-        self.addCleanup(file.close)
-        self.file = file.fileno()
+        room = tempfile.TemporaryDirectory()
+        self.addCleanup(room.cleanup)
         self.calls: list[str] = []
         self.store = store = MountStore.__new__(MountStore)
-        journal = types.SimpleNamespace(file=self.file, check=lambda: self.calls.append("check"), close=lambda: None, path="journal")
-        vars(store).update(_lock=threading.RLock(), _journal=journal, _is_sync_lost=False, _is_broken=False, stopped="", unsynced=True)
+        self.disk = disk = Disk(os.path.join(room.name, "journal"), False, 0.0)
+        self.addCleanup(disk.close)
+        vars(disk).update(require_ours=lambda: self.calls.append("check"), has_unsynced=True)
+        vars(store).update(_lock=threading.RLock(), _disk=disk, _is_sync_lost=False, _is_broken=False, stopped="", is_lost=False)
         vars(store).update(who=Who())
         self.operations = operations = Operations.__new__(Operations)
         save = mock.Mock(side_effect=lambda _: self.calls.append("save"))
@@ -50,7 +52,7 @@ class Syncs(unittest.TestCase):
         self.calls.clear()
 
         def sync(file: int) -> None:
-            self.assertEqual(file, self.file)
+            self.assertEqual(file, self.disk.file)
             self.calls.append("sync")
 
         with mock.patch("os.fdatasync", sync):
@@ -59,18 +61,19 @@ class Syncs(unittest.TestCase):
 
     def test_a_file(self) -> None:
         for only_data in (False, True):
-            self.store.unsynced = True
+            self.disk.has_unsynced = True
             self.assertEqual(self.asked(self.operations.fsync, 3, only_data), ["save", "check", "sync"])
             self.assertFalse(self.store.unsynced)
 
     def test_a_folder(self) -> None:
         for only_data in (False, True):
+            self.disk.has_unsynced = True
             self.assertEqual(self.asked(self.operations.fsyncdir, 9, only_data), ["check", "sync"])
 
     def test_beside_other_calls(self) -> None:
         """The sync that runs beside other calls syncs the same file by another descriptor."""
         found = []
-        with mock.patch("os.fdatasync", lambda file: found.append(os.path.sameopenfile(file, self.file))):
+        with mock.patch("os.fdatasync", lambda file: found.append(os.path.sameopenfile(file, self.disk.file))):
             self.store.sync_journal_aside()
         self.assertEqual(found, [True])
 

@@ -1,4 +1,4 @@
-"""What a mount does beside its requests: rewriting, cleaning, syncing, lines, and its end.
+"""What a mount does beside its requests: tidying, cleaning, syncing, lines, and its end.
 
 tools/mount runs this, since it needs pyfuse3.
 """
@@ -31,7 +31,7 @@ from elephant.mount.loop import Loop
 from elephant.mount.mounting import Asked, Mount
 from elephant.mount.names import spelled
 from elephant.mount.operations import Operations
-from elephant.mount.rewriting import SUFFIX, Rewriting
+from elephant.mount.tidying import MOST_LOOKS, Tidying
 from elephant.mount.tree import Directory, File
 from clocks import FalseClocks
 from test_mount import FILE, FOLDER, Case, Mounted
@@ -57,11 +57,11 @@ class Parts(Case):
         it = super().mount(limits)
         self.log = Said()
         self.operations = Operations(it.store, it.tree, it.contents, it.naming, it.past, self.log)
-        self.rewriting = Rewriting(self.operations, self.log)
+        self.tidying = Tidying(self.operations, self.log)
         return it
 
     def keeper(self, kind: type[Keeper] = Keeper, clean_every: float = 0.0) -> Keeper:
-        made = kind(self.operations, self.rewriting, self.log, lambda _: None, clean_every, 0.0)
+        made = kind(self.operations, self.tidying, self.log, lambda _: None, clean_every, 0.0)
         self.addCleanup(made.stop)
         return made
 
@@ -133,7 +133,7 @@ class Space(Parts):
             self.journal.unlink()
 
     def test_the_space_is_that_of_the_disk(self) -> None:
-        """A content takes twice its bytes in the journal, and none is free if the journal can't be written."""
+        """While the journal is made anew the disk has a content twice. None is free if the journal can't be written."""
         it = self.mount()
         disk, journal = it.store.disk(), os.statvfs(self.journal)
         self.assertEqual((disk.f_fsid, disk.f_frsize, disk.f_blocks), (journal.f_fsid, journal.f_frsize, journal.f_blocks))
@@ -146,7 +146,9 @@ class Space(Parts):
             self.assertEqual((self.told().f_bfree, self.told().f_bavail), (0, 0))
 
 
-class Rewritings(Parts):
+class Tidyings(Parts):
+    """The journal is made anew at quiet moments, and for who asks for it."""
+
     def fill(self, it: Mounted) -> None:
         it.store.line("default / one")
         for number in range(30):
@@ -154,24 +156,51 @@ class Rewritings(Parts):
         while it.store.clean():
             pass
 
-    def test_two_never_run_at_once(self) -> None:
+    def test_it_waits_until_nothing_is_changed(self) -> None:
         it = self.mount()
         self.fill(it)
-        make = self.rewriting._make
-        others: list[str] = []
-
-        def make_twice(*words: Any) -> str:
-            if not others:
-                others.append("")
-                others[0] = self.rewriting.run()
-            return make(*words)
-
-        with mock.patch.object(self.rewriting, "_make", make_twice):
-            self.assertEqual(self.rewriting.run(), "")
-        self.assertEqual(others, ["it is being made anew already"])
+        size = it.store.journal_size
+        self.tidying.run_if_worth()
+        it.save(b"g", b"one")
+        self.tidying.run_if_worth()
+        self.assertEqual((it.store.journal_size > size, self.log.lines), (True, []))
+        self.tidying.run_if_worth()
+        self.assertLess(it.store.journal_size, 60_000)
+        self.assertRegex(self.log.lines[0], r"^the journal was made anew in [0-9.]+ seconds: \d+ bytes before, \d+ now$")
+        self.tidying.run_if_worth()
+        self.assertEqual(len(self.log.lines), 1)
         it.save(b"g", b"after")
         before = it.all()
         self.assertEqual(super().mount().all(), before)
+
+    def test_it_does_not_wait_for_ever(self) -> None:
+        it = self.mount()
+        self.fill(it)
+        for number in range(MOST_LOOKS):
+            self.assertGreater(it.store.journal_size, 60_000, number)
+            it.save(b"g", b"%d" % number)
+            self.tidying.run_if_worth()
+        self.assertLess(it.store.journal_size, 60_000)
+
+    def test_it_is_done_when_the_journal_is_opened(self) -> None:
+        it = self.mount()
+        self.fill(it)
+        before = it.all()
+        it = self.mount()
+        self.tidying.begin()
+        self.assertLess(it.store.journal_size, 60_000)
+        self.assertEqual((it.all(), len(self.log.lines)), (before, 1))
+
+    def test_with_a_history_only_who_asks_gets_it(self) -> None:
+        it = self.mount()
+        self.fill(it)
+        size, kept = it.store.journal_size, Tidying(self.operations, self.log, False)
+        for _ in range(MOST_LOOKS + 1):
+            kept.run_if_worth()
+        kept.begin()
+        self.assertEqual(it.store.journal_size, size)
+        self.assertRegex(kept.run_and_tell(), rf"^ok journal {size} \d+\n$")
+        self.assertLess(it.store.journal_size, 60_000)
 
     def test_who_asks_for_it_gets_a_journal_without_what_was_removed(self) -> None:
         it = self.mount()
@@ -185,35 +214,46 @@ class Rewritings(Parts):
         for number in range(9):
             it.save(b"%d" % number, os.urandom(5000))
         before = it.all()
-        self.assertIn(b"736563726574", self.journal.read_bytes())
-        self.assertNotEqual(self.rewriting.run(), "")  # it would be as long as before
-        self.assertRegex(self.rewriting.run_and_tell(), r"ok journal \d+ \d+\n$")
-        self.assertNotIn(b"736563726574", self.journal.read_bytes())
+        self.assertIn(b"secret", self.journal.read_bytes())
+        self.tidying.begin()  # it isn't worth it
+        self.assertIn(b"secret", self.journal.read_bytes())
+        self.assertRegex(self.tidying.run_and_tell(), r"ok journal \d+ \d+\n$")
+        self.assertNotIn(b"secret", self.journal.read_bytes())
         self.assertEqual(it.all(), before)
         self.assertEqual(super().mount().all(), before)
 
     def test_owner_and_mode_stay(self) -> None:
         self.fill(self.mount())
         os.chmod(self.journal, 0o640)
-        make = self.rewriting._make
-        modes: list[int] = []
+        rename, modes = os.rename, list[int]()
 
-        def make_and_look(*words: Any) -> str:
-            answer = make(*words)
-            modes.append(os.stat(f"{self.journal}{SUFFIX}").st_mode & 0o777)
-            return answer
+        def look(old: str, new: str) -> None:
+            modes.append(os.stat(old).st_mode & 0o777)
+            rename(old, new)
 
-        with mock.patch.object(self.rewriting, "_make", make_and_look):
-            self.assertEqual(self.rewriting.run(), "")
-        self.assertEqual((modes, self.journal.stat().st_mode & 0o777), ([0o600], 0o640))
+        with mock.patch("os.rename", look):
+            self.tidying.begin()
+        self.assertEqual((modes, self.journal.stat().st_mode & 0o777), ([0o640], 0o640))
 
     def test_a_mount_that_ends_keeps_its_journal(self) -> None:
         self.fill(self.mount())
         before = self.journal.stat()
-        self.rewriting.stop()
-        self.assertNotEqual(self.rewriting.run(), "")
+        self.tidying.stop()
+        for _ in range(3):
+            self.tidying.run_if_worth()
         self.assertTrue(os.path.samestat(self.journal.stat(), before))
-        self.assertEqual((self.journal.stat().st_size, list(self.journal.parent.glob(f"*{SUFFIX}"))), (before.st_size, []))
+
+    def test_a_full_disk_leaves_the_journal_as_it_is(self) -> None:
+        it = self.mount()
+        self.fill(it)
+        before = self.journal.stat()
+        with mock.patch("os.fsync", side_effect=OSError(errno.ENOSPC, os.strerror(errno.ENOSPC))):
+            self.tidying.begin()
+        self.assertIn(os.strerror(errno.ENOSPC), self.log.lines[0])
+        self.assertTrue(os.path.samestat(self.journal.stat(), before))
+        it.save(b"g", b"after")
+        shown = it.all()
+        self.assertEqual((it.store.stopped, super().mount().all()), ("", shown))
 
     def test_a_journal_that_was_moved_replaces_none(self) -> None:
         it = self.mount()
@@ -221,10 +261,90 @@ class Rewritings(Parts):
         self.journal.rename(self.journal.with_name("moved"))
         self.journal.write_bytes(self.journal.with_name("moved").read_bytes())
         before = self.journal.stat()
-        self.assertNotEqual(self.rewriting.run(), "")
+        self.assertRegex(self.tidying.run_and_tell(), "^elephant-mount: .*was replaced")
         self.assertTrue(os.path.samestat(self.journal.stat(), before))
         with self.assertRaises(JournalLost):
             it.store.close()
+
+
+class Renewing(Parts):
+    """A store whose counts are near their limits gets fresh numbers, and the folder shows the same."""
+
+    def test_numbers_are_made_anew(self) -> None:
+        it = self.mount(Limits(versions=100))
+        it.store.line("default / one")
+        folder = it.naming.mkdir(it.top, b"d", 0o750, 3, 4)
+        it.naming.set_extended(it.save(b"kept", b"kept", folder), b"user.a", b"1")
+        it.save(b"lost", b"lost")
+        it.naming.unlink(it.top, b"lost")
+        for number in range(86):
+            it.save(b"f", b"%d" % number)
+        node = it.file(b"f")
+        node.lookups += 1
+        while it.store.clean():
+            pass
+        for text in (b"one", b"two"):
+            it.store.line("policy /f all")
+            it.save(b"f", text)
+        before, ino, size = it.all(), node.ino, it.store.journal_size
+        past = it.past.lookup(it.past.lookup(it.past.lookup(it.past.root, b"versions"), b"f"), b"%d" % node.version)
+        past.lookups += 1
+        self.tidying.begin()
+        self.assertRegex(self.log.lines[0], "^the store has fresh numbers, since it had made .* 9[0-9] versions: now it has ")
+        self.assertLess(it.store.counts().versions, 20)
+        self.assertLess(it.store.journal_size, size)
+        self.assertEqual((it.all(), node.ino, it.file(b"f")), (before, ino, node))
+        self.assertEqual(it.versions(b"f")[-2:], [b"one", b"two"])
+        with self.assertRaises(OSError) as stale:
+            it.past.content(past)
+        self.assertEqual(stale.exception.errno, errno.ESTALE)
+        self.assertEqual(list(it.tree.refresh()), [])
+        it.save(b"f", b"three")
+        it.rename(b"f", b"g")
+        it.save(b"new", b"four")
+        it.naming.unlink(folder, b"kept")
+        before = it.all()
+        self.assertEqual(it.versions(b"g")[-3:], [b"one", b"two", b"three"])
+        it = self.mount()
+        self.assertEqual((it.all(), it.versions(b"g")[-3:]), (before, [b"one", b"two", b"three"]))
+        self.assertEqual(it.store.undelete("/d/kept"), 2)
+
+    def test_an_undo_goes_on_over_it(self) -> None:
+        it = self.mount(Limits(versions=100))
+        it.store.line("default / one")
+        for number in range(84):
+            it.save(b"other", b"%d" % number)
+        lines = Lines(self.operations)
+        for text in (b"one", b"two", b"three"):
+            it.save(b"f", text)
+            lines.answer("policy /f all")
+        self.assertRegex(lines.answer("undo /f")[0], "^ok")
+        while it.store.clean():
+            pass
+        self.assertEqual(it.read(b"f"), b"two")
+        self.tidying.begin()
+        self.assertIn("fresh numbers", self.log.lines[-1])
+        self.assertRegex(lines.answer("undo /f")[0], "^ok")
+        self.assertEqual(it.read(b"f"), b"one")
+        self.assertRegex(lines.answer("redo /f")[0], "^ok")
+        self.assertEqual(it.read(b"f"), b"two")
+
+    def test_it_waits_while_a_file_is_open(self) -> None:
+        it = self.mount(Limits(versions=100))
+        it.store.line("default / one")
+        for number in range(90):
+            it.save(b"f", b"%d" % number)
+        while it.store.clean():
+            pass
+        node = it.open(it.file(b"f"))
+        it.contents.write(node, 0, b"x")
+        it.contents.save(node)
+        self.tidying.begin()
+        self.assertGreater(it.store.counts().versions, 90)
+        it.contents.closed(node, True)
+        self.tidying.begin()
+        self.assertLess(it.store.counts().versions, 10)
+        self.assertEqual(it.read(b"f"), b"x9")
 
 
 class Keepers(Parts):
@@ -269,7 +389,7 @@ class Keepers(Parts):
         it = self.mount()
         node = it.open(it.make(b"f"))
         it.contents.write(node, 0, b"one")
-        broken = mock.patch("os.write", side_effect=OSError(errno.ENOSPC, os.strerror(errno.ENOSPC)))
+        broken = mock.patch("os.pwrite", side_effect=OSError(errno.ENOSPC, os.strerror(errno.ENOSPC)))
         with broken, self.assertRaises(JournalError) as caught:
             it.contents.closed(node, True)
         self.assertEqual(self.operations.errno_of(caught.exception), errno.ENOSPC)
@@ -374,7 +494,7 @@ class Faults(Parts):
         node = it.save(b"f", b"one", folder)
         it.save(b"g", b"two", folder)
         it.contents.forget_read()
-        broken = mock.patch("os.write", side_effect=OSError(errno.EIO, os.strerror(errno.EIO)))
+        broken = mock.patch("os.pwrite", side_effect=OSError(errno.EIO, os.strerror(errno.EIO)))
         with broken, self.assertRaises(pyfuse3.FUSEError) as caught:
             self.operations.rename(it.top.ino, b"d", it.top.ino, b"e", 0, None).send(None)
         self.assertEqual((caught.exception.errno, it.contents.whole(node), folder.path), (errno.EIO, b"one", b"/e"))
@@ -383,7 +503,7 @@ class Faults(Parts):
             self.operations.unlink(folder.ino, b"f", None).send(None)
         self.assertEqual(caught.exception.errno, errno.EROFS)
         told: list[Changes] = []
-        keeper = Keeper(self.operations, self.rewriting, self.log, told.append, 0.0, 0.0)
+        keeper = Keeper(self.operations, self.tidying, self.log, told.append, 0.0, 0.0)
         with broken:
             keeper.retry()
         keeper.retry()
@@ -412,7 +532,7 @@ class Asking(Parts):
             text, changes = lines.answer("undo /f")
         self.assertEqual((text[:21], changes), ("ok version 5: what it", [(it.top, b"f")]))
         self.assertEqual((it.read(b"f"), list(it.tree.refresh())), (b"one", []))
-        with mock.patch("os.write", side_effect=OSError(errno.EIO, os.strerror(errno.EIO))):
+        with mock.patch("os.pwrite", side_effect=OSError(errno.EIO, os.strerror(errno.EIO))):
             text, changes = lines.answer("mkdir /d")
         self.assertEqual((text[:16], changes, b"d" in it.top.children), ("elephant-mount: ", [(it.top, b"d")], True))
 

@@ -10,10 +10,10 @@ from contextlib import suppress
 from typing import Optional, Union
 from unittest import mock
 
+from anew import make_anew
 from elephant import Limits
-from elephant.keeping import Journal
+from elephant._disk import Disk
 from elephant.mount.naming import EXCHANGE
-from elephant.mount.shorter import shorten
 from elephant.mount.tree import Directory, File
 from elephant.mount.undo import Undo
 from elephant.mount.whereabouts import Nothing
@@ -555,7 +555,7 @@ class Folders(Undoing):
         first = self.later()
         self.fill({b"/m/%d" % number: b"two" for number in range(200)})
         self.later()
-        with mock.patch.object(Journal, "append", autospec=True) as append:
+        with mock.patch.object(Disk, "append", autospec=True, side_effect=Disk.append) as append:
             self.undo(b"/m", first)
         self.assertLess(append.call_count, 4)
 
@@ -664,7 +664,7 @@ class Turning(Undoing):
         self.turn("undo redo", 0, 1)
         self.it.close()
         new = self.journal.with_name("new")
-        shorten(str(self.journal), self.journal.stat().st_size, str(new))
+        make_anew(self.journal, new)
         self.journal = new
         self.mount()
         self.turn("redo redo undo undo", 2, 3, 2, 1)

@@ -13,6 +13,7 @@ except ImportError:
     raise unittest.SkipTest("there is no pyfuse3 for this Python") from None
 
 import elephant
+from anew import make_anew
 from clocks import DAY, START, FalseClocks
 from elephant._guard import SETTLE
 from elephant.keeping import told_time
@@ -20,7 +21,6 @@ from elephant.mount.cleaning import Cleaner
 from elephant.mount.control import Lines
 from elephant.mount.log import Log, local
 from elephant.mount.operations import Operations
-from elephant.mount.shorter import shorten
 from elephant.mount.soon import Soon
 from test_mount import MEMORY, Mounted
 
@@ -225,7 +225,7 @@ class Waits(Case):
         self.mount()
         self.pass_by(HOUR)
         new = self.journal.with_name("new")
-        shorten(str(self.journal), self.it.store.journal_size, str(new))
+        make_anew(self.journal, new)
         self.end()
         self.clocks.pass_by(DAY)
         for journal in (self.journal, new):

@@ -35,13 +35,14 @@ class Gaps:
     def __init__(self) -> None:
         self.last_end = 0
         """The end of the last one of a day or more."""
-        self._moment = 0
+        self.moment = 0
+        """Of the last change."""
 
     def note(self, moment: int) -> None:
         """Notes the moment of a change."""
-        if moment - self._moment >= DAY:
+        if moment - self.moment >= DAY:
             self.last_end = moment
-        self._moment = moment
+        self.moment = moment
 
 
 def named(key: Removable) -> VersionName:

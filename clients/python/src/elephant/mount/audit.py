@@ -1,8 +1,7 @@
 """The history of a mount, for an audit: what its journal says, run again in a store that keeps a history.
 
-The mount's own store keeps none: it would grow by each question that a request asks. The journal has each change since its beginning, so
-the history begins there too, also if the folder is mounted with `--history` for the first time. It lacks what was only asked or refused,
-and the contents that a journal that was made anew has left out.
+The mount's own store keeps none: it would grow by each question that a request asks. The journal has each change since it was made anew, so
+the history begins there too, also if the folder is mounted with `--history` for the first time. It lacks what was only asked or refused.
 """
 
 from __future__ import annotations
@@ -10,12 +9,12 @@ from __future__ import annotations
 import re
 from typing import Optional
 
-from .. import ElephantError, Limits, Refused, Removal, Store, VersionStory
+from .. import ElephantError, FileStore, Limits, Refused, Removal, Store, VersionStory
 from .store import MountStore
 
 # Lines of a store with a history.
 LINES = frozenset(("answers", "gone", "handles", "history", "removals", "trim"))
-NO_HISTORY = "this mount keeps no history: mount the folder with --history, and it has all since the journal began"
+NO_HISTORY = "this mount keeps no history: mount the folder with --history, and it has all since the journal was made anew"
 
 _NOTE = re.compile(r"^- note ([0-9a-f]+)$", re.M)
 
@@ -71,13 +70,19 @@ class Audit:
             self._found.close()
         self._found, self._seen = None, ()
 
+    def _read(self) -> Store:
+        path = self._store.journal_path
+        if self._store.has_lines:
+            return Store(path, limits=self._limits, history=True, read_only=True)
+        return FileStore(path, history=True, read_only=True)
+
     def _asked(self) -> Store:
         """Returns a store that has what the journal has. It is made anew if the journal was changed."""
-        seen = self._store.journal.identity, self._store.journal_size
+        seen = self._store.journal_state
         if self._found is None or seen != self._seen:
             self.close()
             try:
-                self._found = Store(self._store.journal_path, limits=self._limits, history=True, read_only=True)
+                self._found = self._read()
             except (ElephantError, OSError, MemoryError) as fault:
                 raise ValueError(f"the journal can't be run again: {fault or 'there is no memory'}") from fault
             self._seen = seen

@@ -5,6 +5,8 @@ from __future__ import annotations
 from collections.abc import Iterator
 from typing import NamedTuple, Optional
 
+from ..keeping import Front, Lives, NameRow
+
 
 class Place(NamedTuple):
     """A name that a directory had until a moment."""
@@ -85,6 +87,25 @@ class Chronicle:
             found |= fresh
             open_ += fresh
         return found
+
+
+def chronicle_of(front: Front, lives: Lives) -> Chronicle:
+    """Returns the chronicle of a store's names."""
+    found, policies = Chronicle(), {it.number: it.policy for it in front.files}
+    for row in lives.ended:
+        assert row.death is not None
+        found.end(row.parent, row.name, row.number if row.is_directory else None, row.death, _was_moved(row, lives, policies))
+        if not row.is_directory:
+            found.end_of_file(row.number, row.parent, row.name, row.death)
+    return found
+
+
+def _was_moved(row: NameRow, lives: Lives, policies: dict[int, str]) -> bool:
+    """Whether what had a name goes on under another one: it was renamed, or its content became that of another file. Then the file has the
+    policy that keeps nothing."""
+    if any(it.birth == row.death and it is not row for it in lives.rows_of(row)):
+        return True
+    return not row.is_directory and policies.get(row.number) == "one"
 
 
 def begin_of_last(moments: list[int], pause: int) -> int:

@@ -44,12 +44,17 @@ class Cleaner:
         now, steady = int(self.store.now), self.store.steady()
         return Guard(self.store.records.announced, now, steady, self.store.last_change or now, self.store.missed_until)
 
+    def renumber(self) -> None:
+        """Begins anew after the versions have got fresh numbers. No version may be held by a handle."""
+        self.waits, self._told, self._listed_at = {}, set(), 0.0
+        self.guard = None if self.guard is None else self._guard()
+
     # What the log says.
 
     def look(self) -> None:
         """Looks at the clocks, and logs what is new about them."""
         with self.operations.lock:
-            (kind, fault), now = self.store.clock_state(), int(self.store.now)
+            (kind, fault), now = self.store.clock_state(), self.store.moment
             slept = self.guard.look(now, self.store.steady()) if self.guard else 0.0
             if self.guard and self._kind == "behind" and not kind:
                 self.guard.miss(now)

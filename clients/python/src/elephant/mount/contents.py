@@ -104,13 +104,13 @@ class Contents:
             raise Limited(lacking, getattr(self.store.quota.limits, lacking))
 
     def _set_pending(self, node: File, content: int) -> None:
-        wanted = 2 * content + content // 200 + 512 if content else 0
+        wanted = content + content // 200 + 512 if content else 0
         self.store.pending += wanted - node.pending
         node.pending = wanted
 
     def _reserve(self, node: File, size: int) -> None:
         """Makes sure that the journal's disk has space for a draft of that size."""
-        self.store.reserve(max(size - node.pending // 2, 0))
+        self.store.reserve(max(size - node.pending, 0))
         self._set_pending(node, max(size, 1))
 
     def write(self, node: File, offset: int, data: bytes) -> int:

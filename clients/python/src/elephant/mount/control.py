@@ -19,7 +19,7 @@ from typing import Optional
 from zlib import crc32
 
 from .. import BadName, BadTime, ClockDoubt, ElephantError, Refused
-from ..keeping import AT, NoSpace, require_shown, told_time
+from ..keeping import AT, NoSpace, is_remark, require_shown, told_time
 from .audit import Audit
 from .log import local
 from .marks import Marks
@@ -175,6 +175,8 @@ class Lines:
             return "elephant-mount: the clock of a mount is the time of day\n"
         if words[:2] == ["open", "write"]:
             return "elephant-mount: programs write the files of a mount, and lines don't\n"
+        if word == "note" and len(words) == 2 and is_remark(_bytes_in(words[1])):
+            return "elephant-mount: a note that begins with '# ' or '#+' is one of the mount's own\n"
         if word in _OF_HANDLES and len(words) > 1 and words[1] in self._own_handles():
             return "no 15 NoHandle\n"
         if word not in _ASK:
@@ -310,6 +312,14 @@ class Control:
         answer, changes = self._lines.answer(line, (user, process))
         self._changed(changes)
         caller.sendall(answer.encode("utf-8", "surrogateescape"))
+
+
+def _bytes_in(word: str) -> bytes:
+    """Returns the bytes that a word spells, or none."""
+    try:
+        return bytes.fromhex(word)
+    except ValueError:
+        return b""
 
 
 def _private_folder(journal: str) -> str:

@@ -114,8 +114,8 @@ class Counts:
     def _sentence(self, name: str, reached: int) -> str:
         end = "a few are kept back for undo" if self.kept_back(name) else "none is kept back for undo"
         return (
-            f"{reached} in 100 of the {name} that the store ever makes are made, and {self.left(name)} are left ({end}): "
-            "before they end, go on in a new journal by 'elephant-mount move'"
+            f"{reached} in 100 of the {name} that the store makes with these numbers are made, and {self.left(name)} are left ({end}): it "
+            "gets fresh numbers by itself if less than half is held, and else go on in a new journal by 'elephant-mount move'"
         )
 
     def text(self) -> str:

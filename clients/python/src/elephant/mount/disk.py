@@ -8,11 +8,6 @@ import os
 _libc = ctypes.CDLL(None)
 
 
-def make_private(path: str) -> None:
-    """Makes a journal's file that only its owner may read: it contains all that the modes of the folder hide."""
-    os.close(os.open(path, os.O_WRONLY | os.O_CREAT | os.O_EXCL | os.O_CLOEXEC, 0o600))
-
-
 def sync_all(folder: str) -> None:
     """Makes the kernel write its cache of the files of a folder's file system."""
     file = os.open(folder, os.O_RDONLY | os.O_DIRECTORY | os.O_CLOEXEC)

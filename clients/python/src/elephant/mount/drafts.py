@@ -6,13 +6,15 @@ from collections.abc import Iterable
 from functools import partial
 from typing import TYPE_CHECKING, NamedTuple, Optional
 
-from .. import ElephantError, JournalError
-from ..keeping import Core, Lines, Opposite, save_line, write_lines
+from .. import JournalError
+from ..keeping import Core, Lines, Opposite
 
 if TYPE_CHECKING:
     from .store import MountStore
 
 BLOCK = 4096
+# A content of at most so many bytes is saved whole: so it shares no block with the version before.
+MOST_WHOLE = 4000
 
 
 class NotKept(JournalError):
@@ -40,10 +42,6 @@ class Drafts:
         """By the handle, the number of its file."""
         self._held: dict[int, bytes] = {}
         """By the number of a file, what the store has as its draft, if that is known."""
-        self._begun: dict[int, int] = {}
-        """By the number of a file, a handle whose draft has a part of what a failed change wrote."""
-        self.deferred: dict[int, Lines] = {}
-        """By the handle, the lines of such a part. The journal gets them with the next part."""
 
     # Drafts.
 
@@ -83,10 +81,9 @@ class Drafts:
     def save(self, path: bytes, content: bytes, remarks: Iterable[bytes] = ()) -> int:
         """Makes a content the next version of a file. Returns the version's number, or 0 if the file was empty and stays so.
 
-        It is one line of the journal, if the content fits into one and no handle writes the file.
+        It is one event, if the content is short and no handle writes the file.
         """
-        line = save_line(path, content) if content else None
-        if line is None or self._is_written(path):
+        if not 0 < len(content) <= MOST_WHOLE or self._is_written(path):
             return self.close(self.write(path, None, content, remarks))
         version = 0
         self._store.memory.require_for(len(content))
@@ -94,7 +91,7 @@ class Drafts:
             with self._store.changing() as (core, lines):
                 old = int(core.stat(path, path).version)
                 version = core.ask(core.library.elephant_save, path, path, len(path), content, len(content))
-                lines += (line, *remarks)
+                lines += (b"save " + path, *remarks)
                 self._store.opposites.append(Opposite(partial(self._go_back, path, old)))
                 return version
         except JournalError as fault:
@@ -104,8 +101,7 @@ class Drafts:
 
     def _is_written(self, path: bytes) -> bool:
         """Whether a handle writes the file at a path."""
-        file = int(self._store.stat_row(path).id)
-        return file in self._begun or file in self._files.values()
+        return int(self._store.stat_row(path).id) in self._files.values()
 
     def replace(
         self, path: bytes, source: bytes, content: bytes, is_fresh: bool, remarks: Iterable[bytes], keeps_open: bool = False
@@ -139,22 +135,15 @@ class Drafts:
     # The steps of a change, and what takes each back.
 
     def _open(self, core: Core, lines: Lines, path: bytes, base: Optional[Base] = None) -> int:
-        """Opens a handle that writes a file, or continues with that of a change that failed."""
+        """Opens a handle that writes a file."""
         row = core.stat(path, path)
         file, version, length = int(row.id), int(row.version), int(row.length)
-        if file in self._begun:
-            handle = self._begun.pop(file)
-        else:
-            lines.append(b"open write " + path)
-            try:
-                handle = core.ask(core.library.elephant_open_write, path, path, len(path))
-            except ElephantError:
-                lines.pop()
-                raise
-            if file not in self._files.values():  # else there is a draft already, which may differ from the version
-                self._note_held(file, version, length, base)
-            self._files[handle] = file
-        self._store.opposites.append(Opposite(partial(self._end, file, handle), handle, path))
+        handle = core.ask(core.library.elephant_open_write, path, path, len(path))
+        lines.append(b"open write " + path)
+        if file not in self._files.values():  # else there is a draft already, which may differ from the version
+            self._note_held(file, version, length, base)
+        self._files[handle] = file
+        self._store.opposites.append(Opposite(partial(self._end, handle), handle, path))
         return handle
 
     def _note_held(self, file: int, version: int, length: int, base: Optional[Base]) -> None:
@@ -168,41 +157,48 @@ class Drafts:
         """Forgets a handle that was closed, which may be a reader."""
         self._held.pop(self._files.pop(handle, 0), None)
 
-    def _end(self, file: int, handle: int, core: Core, lines: Lines) -> None:
-        """Closes a handle that a failed change has opened. If its draft has a part of the content, the handle stays open, so that the
-        part becomes no version: the next save of the file continues with it."""
-        if handle in self.deferred:
-            self._begun[file] = handle
-            return
-        core.ask(core.library.elephant_close_handle, "", handle)
-        lines.append(b"close %d" % handle)
+    def _end(self, handle: int, core: Core, lines: Lines) -> None:
+        """Gives up a handle that a failed change has opened. What the change has written is dropped, unless another handle writes the
+        file."""
+        core.do(core.library.elephant_abandon, "", handle)
+        lines.append(b"abandon %d" % handle)
         self._forget(handle)
 
     def _fill(self, core: Core, lines: Lines, path: bytes, handle: int, content: bytes) -> None:
-        """Makes a content that of a draft. If that fails midway, the journal gets none of it until it is made up."""
-        done, file = self.deferred.get(handle, []), self._files[handle]
+        """Makes a content that of a draft."""
+        file, done = self._files[handle], list[tuple[int, int]]()
         old = self._held.pop(file, None)
         if old is None:
             old = core.read_handle(path, handle)
+        if not self._is_only_of_change(file, handle):
+            self._store.opposites.append(Opposite(partial(self._empty, path, handle, old, done), handle))
         for start, end in changed_parts(old, content):
             data = content[start:end]
-            written = write_lines(handle, start, data)
             core.do(core.library.elephant_write, path, handle, start, data, len(data))
-            self.deferred[handle] = done
-            done += written
+            done.append((start, end))
+            lines.append(b"write %d" % handle)
         if len(content) < len(old):
             core.do(core.library.elephant_truncate, path, handle, len(content))
-            done.append(b"truncate %d %d" % (handle, len(content)))
-        lines += done
-        self.deferred.pop(handle, None)
+            done.append((len(content), len(old)))
+            lines.append(b"truncate %d" % handle)
         self._held[file] = content
-        self._store.opposites.append(Opposite(partial(self._set_aside, handle, done), handle))
 
-    def _set_aside(self, handle: int, done: Lines, core: Core, lines: Lines) -> None:
-        """Takes the lines of a draft's content out of a change that has failed, until the next part of the draft."""
-        for it in reversed(done):
-            del lines[len(lines) - 1 - lines[::-1].index(it)]
-        self.deferred[handle] = done
+    def _is_only_of_change(self, file: int, handle: int) -> bool:
+        """Whether a handle was opened by the change that is being made, and no other writes the file."""
+        is_opened = any(it.handle == handle and it.path for it in self._store.opposites)
+        return is_opened and list(self._files.values()).count(file) == 1
+
+    def _empty(self, path: bytes, handle: int, old: bytes, done: list[tuple[int, int]], core: Core, lines: Lines) -> None:
+        """Gives a draft back what it had before a failed change, in the parts that were written."""
+        while done:
+            start, end = done[-1]
+            data = old[start:end]
+            if data:
+                core.do(core.library.elephant_write, path, handle, start, data, len(data))
+            core.do(core.library.elephant_truncate, path, handle, len(old))
+            lines.append(b"truncate %d" % handle)
+            del done[-1]
+        self._held[self._files[handle]] = old
 
     def _close(self, core: Core, lines: Lines, handle: int) -> int:
         """Closes a handle. Returns the number of the version that this made, or 0."""

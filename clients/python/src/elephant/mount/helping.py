@@ -10,7 +10,7 @@ from .language import COMMANDS
 
 COLUMNS = 80
 _MOMENT = "A MOMENT is a time as you type it, as 2026-11-29, '2026-11-29 09:21', 'yesterday 15:00' or '2 hours ago'."
-_HISTORY = "A mount with --history answers it. What it knows begins with the journal, also if this is the first mount with --history."
+_HISTORY = "A mount with --history answers it. What it knows begins where the journal was made anew, also before the first such mount."
 _DRY = "With --dry-run it only prints what it would do."
 _LENGTHS = "A length is seconds, or has a unit: s, m, h, d, w or y. LADDER is AGE/WIDTH,AGE/WIDTH,.. as 7d/1h,30d/1d, or standard is one."
 _POLICIES = f"A POLICY is one, all, safe:LENGTH, safe:LENGTH/FLOOR, landmarks:LADDER or standard. {_LENGTHS}"
@@ -55,7 +55,7 @@ OWN = {
          "what (its policy, or a mark), or when it was removed. If the file had other names, they follow. With --json it is for programs.",
          "A mount with --history also tells when a removed version was saved and ended, its length and why it was removed, and which mark "
          "held a version after its policy had let it go.",
-         f"Without a FILE it lists the changes since the journal began. {_HISTORY}"),
+         f"Without a FILE it lists the changes since the journal was made anew. {_HISTORY}"),
         ("history letter", "history letter --json"),
     ),
     "changes": Help(
@@ -142,7 +142,7 @@ OWN = {
         (f"Lists the same with the last path of a file that was deleted, and until when it led there. {_HISTORY}",),
         ("removals",),
     ),
-    "answers": Help(("answers",), (f"Lists the changes since the journal began, each with its answer. {_HISTORY}",), ("answers",)),
+    "answers": Help(("answers",), (f"Lists the changes since the journal was made anew, each with its answer. {_HISTORY}",), ("answers",)),
     "handles": Help(
         ("handles",),
         (f"Lists the open handles of the store: which version each reads, or which file it writes. {_HISTORY}",),

@@ -1,4 +1,4 @@
-"""The work of a mount without a request: it has due versions removed, syncs and rewrites its journal, and closes long sessions."""
+"""The work of a mount without a request: it has due versions removed, syncs and tidies its journal, and closes long sessions."""
 
 from __future__ import annotations
 
@@ -13,10 +13,10 @@ from .cleaning import Cleaner
 from .control import Changes
 from .log import Log
 from .operations import Operations
-from .rewriting import Rewriting
+from .tidying import Tidying
 from .tree import File
 
-SYNC_EVERY, RETRY_EVERY, REWRITE_EVERY, LOOK_EVERY, FORETELL_EVERY = 5.0, 2.0, 600.0, 1.0, 3600.0
+SYNC_EVERY, RETRY_EVERY, TIDY_EVERY, LOOK_EVERY, FORETELL_EVERY = 5.0, 2.0, 5.0, 1.0, 3600.0
 Task = tuple[float, Callable[[], object]]
 
 
@@ -27,17 +27,18 @@ class Keeper:
     """
 
     def __init__(
-        self, operations: Operations, rewriting: Rewriting, log: Log, changed: Callable[[Changes], None], clean_every: float, every: float,
+        self, operations: Operations, tidying: Tidying, log: Log, changed: Callable[[Changes], None], clean_every: float, every: float,
         is_guarded: bool = False,
     ) -> None:
         self._changed = changed
         self.operations, self.store, self.log = operations, operations.store, log
-        self.rewriting = rewriting
+        self.tidying = tidying
         self._clean_every, self._every = clean_every, every * 60
         self.cleaner = Cleaner(operations, log, is_guarded)
         self._stopping = self.cleaner.stopping
+        tidying.then.append(self.cleaner.renumber)
         prompt = [(SYNC_EVERY, self.sync), (RETRY_EVERY, self.retry), (LOOK_EVERY, self.cleaner.look)]
-        patient = [(self._clean_every, self.clean), (self._every, self.settle), (REWRITE_EVERY, self.rewriting.run_if_worth)]
+        patient = [(self._clean_every, self.clean), (self._every, self.settle), (TIDY_EVERY, self.tidying.run_if_worth)]
         if clean_every:
             patient.append((FORETELL_EVERY, self.cleaner.foretell))
         self._threads = [threading.Thread(target=self._run, args=(it,), daemon=True) for it in (prompt, patient)]
@@ -48,7 +49,7 @@ class Keeper:
 
     def stop(self) -> None:
         self._stopping.set()
-        self.rewriting.stop()
+        self.tidying.stop()
         for thread in self._threads:
             if thread.ident is not None:
                 thread.join(30)

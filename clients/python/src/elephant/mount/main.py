@@ -165,7 +165,7 @@ def run(asked: argparse.Namespace) -> int:
     except JournalLocked:
         return _refuse(f"{journal} is mounted already, or another program has it open")
     except (ElephantError, OSError) as lack:
-        return _refuse(str(lack))
+        return _refuse(getattr(lack, "subject", "") or str(lack))
     for number in (signal.SIGINT, signal.SIGTERM, signal.SIGHUP):
         if signal.getsignal(number) is not signal.SIG_IGN:  # as nohup has it
             signal.signal(number, lambda *_: mount.end())

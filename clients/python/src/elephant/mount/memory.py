@@ -9,7 +9,7 @@ from .. import NoMemory
 # Memory that changes leave for reads and removals, and for changes without contents; how much more a look for memory asks for, so that
 # the next changes need no look; and the memory of a change without its content. In bytes.
 KEPT, LEAST, STEP, OF_CHANGE = 16 << 20, 4 << 20, 32 << 20, 1 << 16
-# How many times its length a content takes while it is saved (the old and the new one, its digits, their lines and their text), and then.
+# How many times its length a content takes while it is saved (the old and the new one, their parts, events and text), and then.
 SAVING, SAVED = 14, 3
 # A little more than the longest text of a content in a journal.
 PIECE = 9 << 18

@@ -24,9 +24,9 @@ from .names import shown
 from .naming import Naming
 from .operations import Operations
 from .past import text_of
-from .rewriting import Rewriting
 from .soon import Soon
 from .store import CLOCK_IS_RIGHT, READ_ONLY, MountStore
+from .tidying import Tidying
 from .tree import Directory, Tree
 
 
@@ -64,14 +64,15 @@ class Mount:
         # One that only reads has a socket of its own: another mount may write the journal.
         self.control = Control(self.lines, f"{asked.journal} in {asked.folder}" if asked.is_read_only else asked.journal, self._tell_kernel)
         self.past.socket = os.fsencode(self.control.path)
-        self.rewriting = Rewriting(self.operations, self.log)
+        self.tidying = Tidying(self.operations, self.log, not asked.has_history)
         every = asked.clean_every, asked.every
-        self.keeper = Keeper(self.operations, self.rewriting, self.log, self._tell_kernel, *every, asked.is_guarded)
+        self.keeper = Keeper(self.operations, self.tidying, self.log, self._tell_kernel, *every, asked.is_guarded)
         self.lines.more = {
-            "rewrite": self.rewriting.run_and_tell, "clean all": self._clean_all, "dump": self._dump, "time": self._time,
+            "rewrite": self.tidying.run_and_tell, "clean all": self._clean_all, "dump": self._dump, "time": self._time,
             CLOCK_IS_RIGHT: self._trust_clock, "journal": lambda: f"ok {asked.journal}\n",
         }
         self._show_removals(asked.clean_every > 0 and not asked.is_read_only)
+        self.tidying.begin()
         self._is_mounted, self._is_ending = False, False
 
     def _show_removals(self, has_cleaning: bool) -> None:
@@ -104,6 +105,8 @@ class Mount:
         if recovered.cut:
             what = "are left out" if self.store.is_read_only else "were cut off"
             self.log.say(f"the journal ended in the middle of a change: {recovered.cut} bytes {what}")
+        if self.store.before:
+            self.log.say(f"the journal had the form of an earlier version, and has the one of now: {self.store.before} has what it was")
         for path, version in recovered.closed:
             if version is not None:
                 self.log.say(f"{path} was being written: what was synced is version {version}")
@@ -163,7 +166,7 @@ class Mount:
             if self.store.stopped:
                 self.store.retry()
             faults = [f"{shown(node.path)}: {fault}" for node, fault in self.contents.settle_all()]
-            for last in (self.operations.readers.close, self.keeper.cleaner.release_all, self.store.release_reserve, self.store.close):
+            for last in (self.operations.readers.close, self.keeper.cleaner.release_all, self.store.close):
                 try:
                     last()
                 except (ElephantError, NoSpace, OSError) as fault:

@@ -15,8 +15,7 @@ from itertools import zip_longest
 from typing import Any
 
 from .. import JournalError, JournalLocked
-from .comparing import plain
-from .records import directory_key, everything, file_key
+from .records import directory_key, everything, file_key, plain
 from .store import MountStore
 
 SUFFIX = ".move"
@@ -68,7 +67,6 @@ def _make(source: MountStore, path: str) -> int:
         copy.run()
         made.sync_journal()
     finally:
-        made.release_reserve()
         made.close()
     again = MountStore(path, read_only=True)
     try:

@@ -11,6 +11,7 @@ from typing import Any, NamedTuple, Optional, Union
 import pyfuse3
 
 from .. import ElephantError
+from ..keeping import Numbers
 from .answering import Answering, answered, changing
 from .contents import Contents
 from .log import Log
@@ -65,6 +66,12 @@ class Operations(Answering):
 
     def follow_store(self) -> None:
         self.untold += self.tree.refresh()
+
+    def renumber(self, numbers: Numbers) -> None:
+        """Gives the nodes the fresh numbers of the store, which has no handle open."""
+        self.contents.forget_read()
+        self.tree.renumber(numbers)
+        self.past.renumber()
 
     # Nodes.
 
@@ -466,7 +473,7 @@ class Operations(Answering):
         disk, it, quota = self.store.disk(), pyfuse3.StatvfsData(), self.store.quota
         it.f_bsize = it.f_frsize = 4096
         it.f_blocks = disk.f_blocks * disk.f_frsize // 4096
-        # A content takes twice its bytes in the journal.
+        # While the journal is made anew, the disk has a content twice.
         it.f_bfree = it.f_bavail = 0 if self.store.stopped else disk.f_bavail * disk.f_frsize // 8192
         it.f_files = quota.limits.files
         it.f_ffree = it.f_favail = min(quota.left("files"), quota.left("names"), quota.left("versions") // 2)

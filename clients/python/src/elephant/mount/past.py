@@ -33,6 +33,8 @@ _WORDS: dict[bytes, tuple[object, ...]] = {b"versions": (b"",), b"restorable": (
 # The kinds of files: by a moment, by the number of a version, and deleted ones.
 FILES = ("then", "version", "deleted")
 Key = tuple[object, ...]
+# The key of a node whose numbers are no more those of the store.
+STALE: Key = ("stale",)
 
 
 class NotBegun(FileNotFoundError):
@@ -128,7 +130,21 @@ class Past:
     def forget(self, node: PastNode) -> None:
         """Drops a node that the kernel doesn't know, or doesn't know any more, and that isn't open."""
         if node is not self.root and not node.lookups and not node.opens and self.by_ino.get(node.ino) is node:
-            del self.by_ino[node.ino], self._by_key[node.key]
+            del self.by_ino[node.ino]
+            self._by_key.pop(node.key, None)
+
+    def renumber(self) -> None:
+        """Makes all nodes anew whose words have numbers, since the store has fresh ones. Those that the kernel knows answer that they are
+        stale, and it looks the names up again."""
+        for key, node in list(self._by_key.items()):
+            if key[0] in FILES or (key[0] == "restorable" and key[1:] != (0,)):
+                del self._by_key[key]
+                node.key, node.row = STALE, None
+                if not node.lookups and not node.opens:
+                    del self.by_ino[node.ino]
+            else:
+                node.row = None
+        self._deleted_seen = -1
 
     # Looking up.
 
@@ -144,7 +160,7 @@ class Past:
 
     def find(self, node: PastNode, name: bytes) -> PastNode:
         """Does the same, also for a forgotten version, which can't be read."""
-        kind, *words = node.key
+        kind, *words = _fresh_key(node)
         if kind == "root" and name in PARTS:
             return self.node(name.decode(), *_WORDS.get(name, ()))
         if kind == "at":
@@ -243,7 +259,7 @@ class Past:
 
     def source(self, node: PastNode) -> Row:
         """Returns the source of a file's content. Raises IsADirectoryError, or Forgotten."""
-        if node.key[0] not in FILES:
+        if _fresh_key(node)[0] not in FILES:
             raise IsADirectoryError(errno.EISDIR, "")
         return self._row(node)
 
@@ -257,7 +273,7 @@ class Past:
 
     def show(self, node: PastNode) -> Shown:
         """Returns the attributes of a node. Raises Forgotten for a version that was removed."""
-        kind, *words = node.key
+        kind, *words = _fresh_key(node)
         now, root = int(self.store.now), self.tree.root.attributes
         if kind in FILES:
             return self._show_file(node)
@@ -302,7 +318,7 @@ class Past:
 
     def names(self, node: PastNode) -> list[bytes]:
         """Returns the names in a directory, which `find` accepts."""
-        kind, *words = node.key
+        kind, *words = _fresh_key(node)
         if kind == "root":
             return list(PARTS)
         if kind == "at":
@@ -395,6 +411,13 @@ def _path_in(places: dict[int, tuple[int, bytes]], number: int) -> bytes:
 
 
 # The words of a key.
+
+
+def _fresh_key(node: PastNode) -> Key:
+    """Returns the key of a node. Raises ESTALE if its numbers are no more those of the store."""
+    if node.key is STALE:
+        raise OSError(errno.ESTALE, "the store has fresh numbers")
+    return node.key
 
 
 def _whole(word: object) -> int:

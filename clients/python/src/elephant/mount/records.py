@@ -1,6 +1,6 @@
 """The mount's records of files and directories: modes, owners, times and extended attributes. They have no past.
 
-The store's journal stores them, as remarks:
+The journal stores them, as remarks:
 
     # made f12 d3 100644 0 0 NS           file 12 was made in directory 3: mode (octal), owner, group, and the time
     # names NS d3 d5 f12                  names in directories 3 and 5 changed, and with them file 12
@@ -25,6 +25,7 @@ import os
 import stat
 import time
 from binascii import hexlify, unhexlify
+from collections.abc import Iterator, Mapping
 from contextlib import suppress
 from typing import NamedTuple, Optional
 
@@ -199,3 +200,37 @@ class Records:
 
     def of(self, key: int) -> Optional[Attributes]:
         return self.by_key.get(key)
+
+    def remarks(self) -> Iterator[bytes]:
+        """Yields the remarks that say everything."""
+        for key, it in self.by_key.items():
+            yield whole(key, it)
+            for name, value in (it.extended or {}).items():
+                yield extended(key, it.ctime, name, value)
+        yield from self.announced.remarks()
+        for (file, version), source in self.undone.items():
+            yield undone(file, version, source)
+        for directory, turns in self.turns.items():
+            for turn in turns.values():
+                yield turn.remark(directory)
+
+    def kept(self, files: Mapping[int, int], directories: Mapping[int, int]) -> Records:
+        """Returns what concerns some files and directories, by other numbers. The attributes are the same objects."""
+        found = Records()
+        for key, it in self.by_key.items():
+            number = (directories if key & 1 else files).get(key >> 1)
+            if number is not None:
+                found.by_key[2 * number + (key & 1)] = it
+        found.turns = {directories[it]: turns for it, turns in self.turns.items() if it in directories}
+        return found
+
+    def take(self, other: Records) -> None:
+        """Takes over what others have. The announcements are the same object as before, since the guard has it."""
+        self.by_key, self.undone, self.turns = other.by_key, other.undone, other.turns
+        self.announced.since.clear()
+        self.announced.since.update(other.announced.since)
+
+
+def plain(it: Attributes) -> tuple[object, ...]:
+    """Returns attributes as a value."""
+    return it.mode, it.owner, it.group, it.atime, it.mtime, it.ctime, sorted((it.extended or {}).items())

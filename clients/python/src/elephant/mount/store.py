@@ -1,26 +1,26 @@
 """The store of a mount: its journal also stores attributes, a part of its limits is kept back, and what ended is remembered.
 
 Attributes are remarks in the journal, so one checksum and one lock cover both. A change that fails midway is taken back by opposite
-commands, since the core has no transactions.
+commands, since the core has no transactions. When which name ended is known from the store itself.
 """
 
 from __future__ import annotations
 
-from collections.abc import Callable, Iterable, Iterator, Sequence
+from collections.abc import Callable, Iterable, Iterator, Mapping, Sequence
 from contextlib import suppress
 from functools import partial
 from typing import Any, NamedTuple, Optional
 
 from .. import Closed, Counts as Made, ElephantError, Full, Limits, NoEntry, Removable
-from ..keeping import Clock, Core, KeepingStore, Lines, Opposite, Path, Replay
-from .chronicle import Chronicle
+from ..keeping import AT, NOW, Clock, Core, Event, Front, KeepingStore, Lines, Lives, NameRow, Numbers, Opposite, Path, Replay
+from .chronicle import Chronicle, chronicle_of
 from .counts import Counts
 from .drafts import Drafts
+from .earlier import LinesReplay
 from .memory import KEPT, SAVING, Memory
-from .records import Records
-from .timeline import OF_TREE, Moments, Removals
+from .records import Records, State
+from .timeline import OF_TREE, Annals, Moments, Removals
 from .who import Who
-from .witness import Witness
 
 CLOCK_IS_RIGHT = "time is right"
 READ_ONLY = "the folder was mounted with --read-only"
@@ -61,47 +61,6 @@ class Ending(NamedTuple):
     departed: Optional[Departed]
 
 
-class _MountReplay(Witness):
-    """Runs a journal again, and notes for the mount which names ended."""
-
-    def __init__(self, core: Core, store: MountStore) -> None:
-        super().__init__(core, store.records)
-        self._store = store
-        self._given = b""
-
-    def command(self, line: bytes) -> int:
-        word, *paths = line.split(b" ")
-        if word in _ENDS:
-            self._store.note_end(self.core, paths[0], word == b"rename" or line == b"unlink " + self._given)
-        # Before a name ends whose content is another file's next version, the file gets this policy.
-        self._given = paths[0] if word == b"policy" and paths[-1] == b"one" else b""
-        if word in _CLEANS:
-            return self._clean(line)
-        code = super().command(line)
-        self._store.first_moment, self._store.missed_until = self.first_moment, self.gaps.last_end
-        if line.startswith(OF_TREE):
-            self._store.moments.note(self.moment)
-        return code
-
-    def close(self, handle: int) -> int:
-        is_written = handle in self.writers
-        code = super().close(handle)
-        if is_written and not code and self.core.number:
-            self._store.moments.note(self.moment)
-        return code
-
-    def _clean(self, line: bytes) -> int:
-        """Removes what a line removes, and notes what that is: a pass removes the first versions that are due."""
-        if line == b"clean":
-            key = self.core.clean()
-            self._store.note_removed([key] if key[1] else [], self.moment)
-            return 0
-        keys, count = self.core.keys(self.core.look(self.core.library.elephant_due, "")), line.partition(b" ")[2]
-        code = super().command(line)
-        self._store.note_removed(keys[:int(count) if count.isdigit() else 0], self.moment)
-        return code
-
-
 class MountStore(KeepingStore):
     """A store in a journal, with the records of a mount. What a full disk stops stays in memory until it can be written."""
 
@@ -114,28 +73,80 @@ class MountStore(KeepingStore):
     ) -> None:
         self.records, self.who = Records(), Who()
         self.quota = Counts(limits or Limits(), self._made)
+        self.annals = Annals(self.records)
         self.chronicle = Chronicle()
         self.memory = Memory()
         self.drafts = Drafts(self)
         self.departed: dict[int, Departed] = {}
-        self.moments, self.removals = Moments(), Removals()
         self.has_saved = False
         """Whether the change that is being made has closed a draft that became a version."""
-        self.first_moment = 0
-        """The moment of the journal's first change, or 0."""
-        self.missed_until = 0
-        """The end of the last day or more without a change, when the journal was opened."""
         self.name_changes = 0
         """A count that goes up whenever a name may have ended, was restored, or is no longer restorable."""
+        self.numbers: Optional[Numbers] = None
+        """The numbers of the last renewal, until the tree has them."""
         super().__init__(journal, limits, read_only, clock, at)
+        self.missed_until = self.annals.gaps.last_end
+        """The end of the last day or more without a change, when the journal was opened."""
+        self.quota.limits = self.limits
         if read_only:
             self.stopped = READ_ONLY
 
+    @property
+    def first_moment(self) -> int:
+        """The moment of the journal's first change, or 0."""
+        return self.annals.first_moment
+
+    @property
+    def moments(self) -> Moments:
+        """The moments at which names or contents changed."""
+        return self.annals.moments
+
+    @property
+    def removals(self) -> Removals:
+        """Which versions were removed."""
+        return self.annals.removals
+
+    # The journal.
+
     def new_replay(self, core: Core) -> Replay:
-        return _MountReplay(core, self)
+        return LinesReplay(core, self.annals)
+
+    def note_event(self, event: Event) -> None:
+        self.annals.note_event(event)
+
+    def note_remark(self, remark: bytes) -> None:
+        self.annals.note_remark(remark)
+
+    def note_front(self, core: Core, front: Front) -> None:
+        lives = Lives(front)
+        self.annals.complete(front, lives)
+        self.chronicle = chronicle_of(front, lives)
+        self.departed = departed_of(core, front, lives)
+
+    def remarks(self, front: Front, numbers: Optional[Numbers] = None) -> Iterator[bytes]:
+        yield from self.annals.remarks(() if numbers else {it.number for it in front.files})
+        yield from self._records_of(front, numbers).remarks()
+
+    def _records_of(self, front: Front, numbers: Optional[Numbers]) -> Records:
+        """Returns the records of what the store has, by fresh numbers if there are some."""
+        if numbers is not None:
+            found = self.records.kept(numbers.files, numbers.directories)
+            found.undone = renumbered(self.records.undone, front, numbers)
+            return found
+        files = {it.number: it.number for it in front.files}
+        found = self.records.kept(files, {it: it for it in front.directories})
+        found.announced, found.undone = self.records.announced, {it: state for it, state in self.records.undone.items() if it[0] in files}
+        return found
+
+    def adopt(self, core: Core, front: Front, numbers: Numbers) -> None:
+        self.records.take(self._records_of(front, numbers))
+        self.annals.removals.clear()
+        self.note_front(core, front)
+        self.name_changes += 1
+        self.numbers = numbers
 
     def note_change(self, now: int, lines: Sequence[bytes]) -> None:
-        self.first_moment = self.first_moment or now
+        self.annals.gaps.note(now)
         self.name_changes += any(not line.startswith(_OF_CONTENTS) for line in lines)
         if self.has_saved or any(line.startswith(OF_TREE) for line in lines):
             self.moments.note(now)
@@ -146,16 +157,16 @@ class MountStore(KeepingStore):
             if line.startswith(b"# "):
                 self.records.apply(line[2:])
 
-    def preface(self) -> Sequence[bytes]:
-        return self.who.news()
-
-    def withheld(self) -> Iterator[Lines]:
-        return iter(self.drafts.deferred.values())
+    def preface(self, now: int) -> Sequence[bytes]:
+        if self.annals.first_moment:
+            return self.who.news()
+        self.annals.first_moment = now
+        return (self.annals.beginning(), *self.who.news())
 
     def reserve(self, content: int = 0) -> None:
         """Makes sure that there is memory for a content, and space on the disk for it. Raises NoMemory, or NoSpace."""
         if content:
-            self.memory.require(SAVING * content + SAVING // 2 * self.pending, content, KEPT)
+            self.memory.require(SAVING * (content + self.pending), content, KEPT)
         super().reserve(content)
 
     def forget_names(self) -> None:
@@ -203,12 +214,19 @@ class MountStore(KeepingStore):
         is_removal = spelled.startswith((b"unlink ", b"rmdir "))
         if is_removal:
             self._require(self.quota.lacking_for_removal())
-        due = self.due() if spelled.startswith(b"pass ") else []
+        if spelled.startswith(_CLEANS):
+            return self._cleaning_line(line)
         answer = self._ending_line(line, spelled.split(b" ")) if spelled.startswith(_ENDS) else super().line(line)
         if is_removal and answer.startswith("ok "):
             self.quota.note_removal()
-        elif spelled.startswith(_CLEANS):
-            self.note_removed(_removed_in(answer, due), int(self.now))
+        return answer
+
+    def _cleaning_line(self, line: str) -> str:
+        """Runs a line that removes versions, and notes which."""
+        due = self.due() if line.startswith("pass ") else []
+        with self.together():
+            answer = super().line(line)
+            self._note_removed(_removed_in(answer, due))
         return answer
 
     def _ending_line(self, line: str, words: Sequence[bytes]) -> str:
@@ -225,15 +243,17 @@ class MountStore(KeepingStore):
             return answer
 
     def clean(self) -> Optional[Removable]:
-        found = super().clean()
-        if found is not None:
-            self.note_removed([found], int(self.now))
+        with self.together():
+            found = super().clean()
+            if found is not None:
+                self._note_removed([found])
         return found
 
-    def note_removed(self, keys: Iterable[tuple[int, int, int]], moment: int) -> None:
+    def _note_removed(self, keys: Iterable[tuple[int, int, int]]) -> None:
         """Notes that versions were removed: since when each was due, and the numbers of its file and its own."""
-        for since, file, number in keys:
-            self.removals.note(file, number, moment, since)
+        remarks = self.annals.note_removed(keys, int(self.now))
+        if remarks:
+            self.keep(*remarks)
 
     def undelete(self, path: Path) -> Optional[int]:
         """Restores a deleted name. Returns the number of the version that a file without a name gets, else None."""
@@ -324,3 +344,41 @@ class MountStore(KeepingStore):
         """Notes that what had a name, which has ended, goes on under another one."""
         parent, _, name = path.rpartition(b"/")
         self.chronicle.note_moved(core.stat(parent, parent or b"/").id, name)
+
+
+def departed_of(core: Core, front: Front, lives: Lives) -> dict[int, Departed]:
+    """Returns the files of a store that have no name."""
+    found = {}
+    for it in front.files:
+        rows = lives.files.get(it.number)
+        if rows and all(row.death is not None for row in rows):
+            last = max(rows, key=lambda row: row.death or 0)
+            found[it.number] = _departed(core, it.policy, it.following - 1, last, lives.path_of(last) or b"/" + last.name)
+    return found
+
+
+def _departed(core: Core, policy: str, version: int, last: NameRow, path: bytes) -> Departed:
+    """Returns a file without a name. If no moment finds it, it was made and deleted within one second."""
+    ended = last.death or 0
+    with suppress(ElephantError):
+        row = core.stat(path, path, AT, max(ended - 1, 0))
+        if row.id == last.number and not row.is_directory:
+            return Departed(path, policy, row.version, row.length, row.closed, ended)
+    return Departed(path, policy, version, 0, ended, ended)
+
+
+def renumbered(undone: Mapping[tuple[int, int], State], front: Front, numbers: Numbers) -> dict[tuple[int, int], State]:
+    """Returns which versions undos have made, by fresh numbers. Left out are those of files without a name, and those of what another file
+    held."""
+    lives, found = Lives(front), {}
+    for file in {file for file, _ in undone}:
+        fresh = numbers.files.get(file)
+        row = next((it for it in lives.files.get(fresh or 0, ()) if it.death is None), None)
+        path = None if row is None else lives.path_of(row)
+        if fresh is None or path is None:
+            continue
+        held = {it.number: at for at, it in enumerate(numbers.before.versions(path, path, NOW, 0), 1)}
+        for (other, version), (source, until) in undone.items():
+            if other == file and version in held and source in held and not until:
+                found[fresh, held[version]] = held[source], 0
+    return found

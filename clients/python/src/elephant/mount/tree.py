@@ -12,7 +12,7 @@ from collections.abc import Iterator
 from typing import Any, Optional, Union
 
 from .. import NoEntry
-from ..keeping import MOST_NAMES
+from ..keeping import MOST_NAMES, Numbers
 from .drafts import Base
 from .names import TooLong, is_spelling_of, name_in, names_of, shown, spelled
 from .records import DIRECTORY_MODE, FILE_MODE, Attributes, directory_key, file_key, saved
@@ -21,6 +21,8 @@ from .store import MountStore
 ROOT = 1
 # Inode numbers that no file and no directory has by its own number.
 FIRST_SPARE = 1 << 40
+# The number of what the store has no more, though the kernel knows it.
+GONE = -1
 
 
 class Node:
@@ -260,6 +262,19 @@ class Tree:
         """Returns the number of names in the longest path below a node, with the node's own."""
         below = node.children.values() if isinstance(node, Directory) else ()
         return 1 + max((self.height(it) for it in below), default=0)
+
+    def renumber(self, numbers: Numbers) -> None:
+        """Gives the nodes fresh numbers. They keep those by which the kernel knows them."""
+        self.files = {}
+        for node in self.by_ino.values():
+            if isinstance(node, Directory):
+                node.number = numbers.directories.get(node.number, GONE)
+                node.left.clear()
+            elif isinstance(node, File):
+                node.number, node.base = numbers.files.get(node.number, GONE), None
+                if node.names:
+                    self.files[node.number] = node
+                    node.version = self.store.stat_row(node.path).version
 
     # After commands that weren't the kernel's.
 

@@ -65,8 +65,8 @@ class Who:
         self._of_handle.pop(handle, None)
 
     def news(self) -> Sequence[bytes]:
-        """Returns the line of a note, if the next change is by another one than the one before."""
+        """Returns a note, if the next change is by another one than the one before."""
         if not self.is_asked or self._now == self._noted:
             return ()
         self._noted = self._now
-        return (b"note " + self._now.hex().encode(),)
+        return (self._now,)
