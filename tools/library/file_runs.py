@@ -159,11 +159,12 @@ KINDS = [
 ]
 
 
-def faults(calls: int, every: int) -> Iterator[Fault]:
-    """Yields the faults of a run: an error and a kill at each call, and the other kinds at every so many."""
+def faults(calls: int, every: int, main: int) -> Iterator[Fault]:
+    """Yields the faults of a run: an error and a kill at every so many calls, and the other kinds at every so many."""
     for first in range(1, calls + 1):
         for at, (many, kind) in enumerate(KINDS):
-            if (many, kind) == (1, errno.EIO) or kind == KILL or (first + at) % every == 0:
+            is_main = (many, kind) == (1, errno.EIO) or kind == KILL
+            if (first + at) % (main if is_main else every) == 0:
                 yield Fault(first, many, kind)
 
 
@@ -218,12 +219,12 @@ def try_fault(suite: Suite, work: Work, fault: Fault) -> None:
         want_files_within(suite, f"fault {fault}, and no power", folder, lefts, work.versions)
 
 
-def keeps_all_if_calls_fail(suite: Suite, work: Work, every: int) -> str:
+def keeps_all_if_calls_fail(suite: Suite, work: Work, every: int, main: int = 1) -> str:
     with tempfile.TemporaryDirectory(dir=MEMORY) as folder:
         ran = suite.run_saves(work.words(Path(folder) / NAME))
     if ran.status or ran.acknowledged < work.changes - 2 or not ran.calls:
         raise Wrong(f"without a fault: status {ran.status}: {ran.errors[-500:]}")
-    chosen = list(faults(ran.calls, every))
+    chosen = list(faults(ran.calls, every, main))
     with ThreadPoolExecutor(WORKERS) as workers:
         list(workers.map(lambda it: try_fault(suite, work, it), chosen))
     return f"{len(chosen)} faults in {ran.calls} calls"
