@@ -37,7 +37,7 @@ ELSEWHERE = re.compile(r"out/|\.git\b|/|~|\.elephant|\.undo")
 # Names of the language, its kit and of other programs, which no source of the tree declares.
 FOREIGN = re.compile(
     r"(std|core|alloc|Rattle)(::|\.|$)|"
-    r"(BufReader|BufWriter|Cursor|jiff_fmt|mremap|parse|--keep-[a-z-]+|gc\.\w+|prune_defer|CONTRACTS\.md)$"
+    r"(BufReader|BufWriter|Cursor|jiff_fmt|mremap|parse|--keep-[a-z-]+|--no-lock|gc\.\w+|prune_defer|CONTRACTS\.md)$"
 )
 # A name that begins with a word in capitals is a pattern.
 PATTERN = re.compile(r"[A-Z]+_[a-z]")
