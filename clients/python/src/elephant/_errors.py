@@ -30,7 +30,8 @@ class ElephantError(Exception):
     @property
     def meaning(self) -> str:
         """The error as a sentence: for a number of the store that of docs/ERRORS.md."""
-        first = _SENTENCE_END.split((type(self).__doc__ or type(self).__name__).partition("\n")[0])[0]
+        told = " ".join((type(self).__doc__ or type(self).__name__).partition("\n\n")[0].split())
+        first = _SENTENCE_END.split(told)[0]
         return first if first.endswith(".") else f"{first}."
 
     def __init_subclass__(cls, number: int = 0) -> None:
