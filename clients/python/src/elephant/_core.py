@@ -112,6 +112,7 @@ class Core:
         self._self = c_void_p.from_param(self.handle)
         into = c_void_p.from_param(self._short), c_size_t.from_param(SHORT)
         self._into_short = (_ZERO, *into, byref(self._number), byref(self._second))
+        self._text_into_short = self._self, _ZERO, *into, byref(self._number)
         self.whole, self.rest = 0, 0
         """Of a file: how many bytes of it keep the store, and what follows them, as `elephant_journal_open` says."""
         if file is not None:
@@ -253,17 +254,25 @@ class Core:
     def text_of(self, call: Call) -> bytes:
         """Makes a call that makes a text and returns its length, and returns the text."""
         length = self.look(call, "text")
-        if length <= len(self._room):
-            return self.kept_bytes(self.library.elephant_answer, length) if length else b""
+        if length <= SHORT:
+            return self._short_text(length) if length else b""
         room, copied = ctypes.create_string_buffer(min(length, _COPIED_AT_ONCE)), io.BytesIO()
         for offset in range(0, length, _COPIED_AT_ONCE):
             count = self.look(self.library.elephant_answer, "text", offset, room, len(room))
             copied.write(memoryview(room)[:count])
         return copied.getvalue()
 
+    def _short_text(self, length: int) -> bytes:
+        """Returns the text that the handle keeps, which has so many bytes."""
+        code = self.library.elephant_answer_short(*self._text_into_short)
+        if code:
+            self.refuse(code, "text")
+        text: bytes = self._short[:length]
+        return text
+
     def settle(self) -> None:
         """Says that the bytes of a file that were given last are on the disk."""
-        code = self.library.elephant_journal_written(self.handle)
+        code = self.library.elephant_journal_written_short(self._self)
         if code:
             self.refuse(code, "the file")
 

@@ -36,17 +36,17 @@ class _RenewalTime:
         self._from = {name: -(-limit * _NEARLY_ALL // _ALL) for name, limit in self._most.items()}
         self._nearly = dict(self._from)
         self._waited, self._wait = 0, 0
-        self._look_from = 0
+        self.look_from = 0
         """The length of the file from which on a count may be near at its limit: what is done takes more bytes than it makes of a kind."""
 
     def has_come(self, length: int, counts: Callable[[], Counts]) -> bool:
-        if length < self._look_from:
+        if length < self.look_from:
             return False
         made = counts()._asdict()
         if any(made[name] >= count for name, count in self._from.items()):
             return True
         least = min((count - made[name] for name, count in self._nearly.items()), default=0)
-        self._look_from = length + max(least, 0)
+        self.look_from = length + max(least, 0)
         if not self._wait or least > 0:
             return False
         self._waited += 1
@@ -54,7 +54,7 @@ class _RenewalTime:
 
     def look_anew(self) -> None:
         """Notes that the file has another length, or lacks the bytes of what was done."""
-        self._look_from = 0
+        self.look_from = 0
 
     def is_worth(self, counts: Counts, renewed: Counts) -> bool:
         """Whether each count that is nearly at its limit is below half of it in the renewed store."""
@@ -297,7 +297,10 @@ class FileStore(Store):
 
     def _tidy(self) -> Optional[ElephantError]:
         """Does so, and returns the first error."""
-        fault, is_tried = None, False
+        disk, fault, is_tried = self._disk, None, False
+        # Most commits come this far and no further.
+        if disk.length < self._renewal_time.look_from and disk.length <= max(LONG, 2 * disk.start):
+            return None
         steps = (self._wants_renewal, self._renew_if_worth), (self._wants_compaction, self._compact_long)
         for wants, do in steps:
             if wants():
@@ -306,7 +309,7 @@ class FileStore(Store):
         if is_tried:
             self._tidied = fault
         if fault is not None:
-            _LOG.warning("%s isn't tidied, and stays as it is: %s", self._disk.path, fault)
+            _LOG.warning("%s isn't tidied, and stays as it is: %s", disk.path, fault)
         return fault
 
     def _wants_renewal(self) -> bool:

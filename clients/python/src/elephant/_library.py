@@ -79,8 +79,8 @@ def _places() -> Iterator[str]:
 
 
 class Library(ctypes.CDLL):
-    """The loaded library. Other threads run during a call, except for the two of short reads: these keep Python's lock, since to give it
-    up and get it back takes longer than they do."""
+    """The loaded library. Other threads run during a call, except for those of short reads and texts: these keep Python's lock, since to
+    give it up and get it back takes longer than they do."""
 
     def __init__(self, place: str) -> None:
         super().__init__(place)
@@ -88,7 +88,12 @@ class Library(ctypes.CDLL):
         # They have no signature: `Core` gives them arguments that are converted already.
         self.elephant_read_short: Any = keeps_lock["elephant_read_into"]
         self.elephant_read_handle_short: Any = keeps_lock["elephant_read_handle_into"]
-        self.elephant_read_short.restype = self.elephant_read_handle_short.restype = c_int32
+        self.elephant_answer_short: Any = keeps_lock["elephant_answer"]
+        self.elephant_journal_written_short: Any = keeps_lock["elephant_journal_written"]
+        for call in (
+            self.elephant_read_short, self.elephant_read_handle_short, self.elephant_answer_short, self.elephant_journal_written_short
+        ):
+            call.restype = c_int32
 
 
 @functools.lru_cache(maxsize=None)
