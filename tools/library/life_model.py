@@ -7,7 +7,7 @@ import random
 from collections.abc import Callable, Iterator
 from typing import NamedTuple, Optional
 
-from program.twin_rows import Block, Name, Place, Target
+from program.twin_rows import Block, File, Name, Place, Target
 from program.twin_scripts import Writer
 from program.twin_world import Twin
 
@@ -23,6 +23,10 @@ PATHS = ("/f", "/g", "/h", "/i", "/j", "/d/f", "/d/g", "/d/h", "/d/e/f", "/d/e/g
 DIRECTORIES = ("/d", "/d/e", "/e", "/k")
 # Of directories all names stay, so that there must not be many.
 MOST_DIRECTORIES, MOST_MOVES = 12, 20
+
+
+def is_newest_removed(file: File) -> bool:
+    return bool(file.versions) and file.versions[-1].number < file.next - 1
 
 
 class Life(Twin):
@@ -58,10 +62,12 @@ class Life(Twin):
         ]
         self.files = {files[old]: it for old, it in self.files.items()}
         for file in self.files.values():
+            # Nothing may be taken for the newest version once that was removed, so it keeps its number.
+            removed = int(is_newest_removed(file))
             for number, version in enumerate(file.versions, 1):
                 version.number = number
                 version.slots = [(data, by if by < 0 else -(self.renewals * _BEFORE + by)) for data, by in version.slots]
-            file.next = len(file.versions) + 1
+            file.next = len(file.versions) + 1 + removed
         for group in self.groups:
             group.members = [files[it] for it in group.members]
         self.last_file, self.last_handle = len(files), 0
@@ -70,7 +76,8 @@ class Life(Twin):
         """Returns how many of each kind a renewed store counts."""
         return {
             "files": len(self.files), "directories": len(self.directories) - 1, "names": len(self.names),
-            "versions": sum(len(it.versions) for it in self.files.values()), "handles": 0, "groups": len(self.groups),
+            "versions": sum(len(it.versions) + int(is_newest_removed(it)) for it in self.files.values()), "handles": 0,
+            "groups": len(self.groups),
             "members": sum(len(it.members) for it in self.groups), "marks": sum(len(it.marks) for it in self.groups),
         }
 
