@@ -1,7 +1,6 @@
 mod Basics
 mod Lengths
 mod Clocks
-mod Copies
 pub mod Gathers
 mod Lines
 mod VersionMeant

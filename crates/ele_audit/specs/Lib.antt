@@ -2,7 +2,6 @@ pub mod AuditText
 pub mod Clock
 pub mod Held
 pub mod HoldText
-pub mod LastCopy
 pub mod Open
 pub mod Removals
 pub mod Rows

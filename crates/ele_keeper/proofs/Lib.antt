@@ -1,5 +1,0 @@
-mod Steps
-pub mod Journaling
-pub mod Giving
-mod Renewals
-mod Ends
