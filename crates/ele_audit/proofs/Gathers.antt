@@ -1,5 +1,5 @@
 -- Rows, entry after entry.
-use Rattle.ele_audit.proofs.Basics.{List, [], append_assoc, append-nil, ap, length, drop, refl, sym, subst, ℕ, ◌++◌, ◌∷◌, ◌≡◌, ◌≤◌, ◌<◌, ◌+◌, ◌∙◌, get_or, Some, None, false, true, drop_more, at_drop_all}
+use Rattle.ele_audit.proofs.Basics.{List, [], append-nil, ap, length, drop, refl, sym, subst, ℕ, ◌++◌, ◌∷◌, ◌≡◌, ◌≤◌, ◌<◌, ◌+◌, ◌∙◌, get_or, Some, None, false, true}
 pub use Rattle.ele_name_paths.proofs.Gathers.{Adds, Gathers, adds_done, adds_more, adds_none, each_append, each_done, each_more, gathers_done, gathers_more, gathers_new, gathers_none, keeps_no, keeps_one, kept_done, kept_more, left_more, left_none}
 use Rattle.ele_audit.proofs.Clocks.{clocked}
 use Rattle.ele_audit.specs.Clock.{clock_after}
@@ -11,6 +11,8 @@ use Rattle.ele_audit.specs.Removals.{removal_in, removals}
 use Rattle.ele_due.specs.declared.key.Key.{Key}
 use Rattle.ele_history.specs.Legal.{IsLegal}
 use Rattle.ele_model.specs.declared.entry.Entry.{Entry}
+use Rattle.ele_model.specs.declared.reply.Reply.{Reply}
+use Rattle.ele_model.specs.declared.reply.Reply.TheVariants as reply
 use Rattle.ele_model.specs.Step.{step}
 use Rattle.ele_model.specs.World.{World}
 
@@ -26,6 +28,15 @@ replays_more R all w next entries i entry rows added more lt is next_is added_ar
 pub replays_done : {B : Type 0} (R : World × Key → B → Type 0) (all : List (World × Key)) (w : World) (entries : List Entry) (i : ℕ) (rows : List B) → length entries ≤ i
     → Gathers R all (removals w (drop i entries)) rows → AllZip R all rows
 replays_done R all w entries i rows le so = gathers_done R all (removals w (drop i entries)) rows (ap (λ (left : List Entry). removals w left) (left_none entries i le)) so
+
+-- a reply that removes no version adds no row
+none_here : (w : World) (answer : Reply) → ((key : Key) → answer ≡ reply.Removed key → ⊥) → removal_in w answer ≡ []
+none_here w (reply.Removed key) other = absurd (other key refl)
+none_here w answer other = refl
+
+pub no_row : {B : Type 0} (R : World × Key → B → Type 0) (w : World) (answer : Reply) (rows : List B) → ((key : Key) → answer ≡ reply.Removed key → ⊥)
+    → (added : List B) × AllZip R (removal_in w answer) added × (rows ≡ rows ++ added)
+no_row R w answer rows other = ([], rw (none_here w answer other) tt, sym (append-nil rows))
 
 -- ---- the clock by the replies
 

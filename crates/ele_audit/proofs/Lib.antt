@@ -1,6 +1,7 @@
 mod Basics
 mod Lengths
 mod Clocks
+mod Copies
 pub mod Gathers
 mod Lines
 mod VersionMeant

@@ -2,6 +2,7 @@ pub mod AuditText
 pub mod Clock
 pub mod Held
 pub mod HoldText
+pub mod LastCopy
 pub mod Open
 pub mod Removals
 pub mod Rows

@@ -3,12 +3,14 @@ ghost use Rattle.std.specs.Prelude.{◌≡◌, ◌++◌, IfOk, OnErr, List};
 ghost use Rattle.ele_audit.specs.Clock.{clock_after};
 ghost use Rattle.std.specs.List.{AllZip, list_any};
 ghost use Rattle.ele_model.specs.World.{World};
+ghost use Rattle.ele_audit.specs.LastCopy.{IsCopy};
 ghost use Rattle.ele_audit.specs.Removals.{AreRemoved, HasRemovals, IsExplained, is_removal, removal_in};
 
 use crate::held::hold_in;
+use crate::last_copy::{advance, copy_of};
 use crate::row::Removed;
 use ele_history::History;
-use ele_model::{Entry, Explain, FromFlat, Key, NoMemory, Reply, Target};
+use ele_model::{Entry, Explain, Flat, FromFlat, Key, NoMemory, Reply, Target};
 use ele_moment::Moment;
 use ele_name_paths::{Above, path_of};
 use ele_world::laws;
@@ -17,8 +19,8 @@ use std::alloc::Global;
 /// Returns the versions that the stored entries removed, in order.
 ///
 /// `NoMemory` if memory is refused. If no stored entry removed a version, it takes none.
-/// Cost: that of a core made of the base and of all stored events on it, and for each removal a copy
-/// of all rows.
+/// Cost: that of a core made of the base and of all stored events on it. The removals between which
+/// only the clock moves share one copy of all rows; for each removal these are scanned.
 #[tactic(auto, using(crate::proofs::Numbered::no_rows))]
 pub fn removed<C: Explain + FromFlat>(
     alloc: Global,
@@ -61,41 +63,53 @@ fn gathered<C: Explain + FromFlat>(
     // For the proof: events led to the base, so a run may go on in it.
     laws::start_stays();
     let mut core = C::from_flat(alloc, history.base())?;
+    let mut copy = None;
     let mut rows = Vec::new(alloc);
     let entries = history.entries();
     for entry in entries {
-        explain(alloc, &core, &entry.reply, &mut rows)?;
-        let _reply = core.apply(&entry.event)?;
+        let kept = explain(alloc, &core, copy, &entry.reply, &mut rows)?;
+        copy = advance(alloc, &mut core, kept, &entry.event)?;
     }
     Ok(rows)
 }
 
-// Pushes the row of what the reply removes from the core's world.
+// Pushes the row of what the reply removes from the core's world. Returns the copy of its rows, or
+// the one that it made.
 fn explain<C: Explain>(
     alloc: Global,
     core: &C,
+    copy: Option<Flat>,
     reply: &Reply,
     rows: &mut Vec<Removed>,
-) -> Result<(), NoMemory>
-    ensures { IfOk result (λ _. (added : List Removed)
+) -> Result<Option<Flat>, NoMemory>
+    requires { IsCopy (C.world core.now) copy }
+    ensures copy { IfOk result (IsCopy (C.world core.now)) }
+    ensures rows { IfOk result (λ _. (added : List Removed)
         × AllZip IsExplained (removal_in (C.world core.now) reply.now) added
         × (rows.new.items ≡ rows.old.items ++ added)) }
 {
-    if let Reply::Removed(key) = reply {
-        rows.push(explained(alloc, core, *key)?)?;
-    }
-    Ok(())
+    let Reply::Removed(key) = reply else {
+        return Ok(copy);
+    };
+    let world = copy_of(core, copy)?;
+    rows.push(explained(alloc, core, &world, *key)?)?;
+    Ok(Some(world))
 }
 
-// The row of the version that is removed from the core's world.
-fn explained<C: Explain>(alloc: Global, core: &C, key: Key) -> Result<Removed, NoMemory>
+// The row of the version that is removed from the core's world, of which there is a copy.
+fn explained<C: Explain>(
+    alloc: Global,
+    core: &C,
+    world: &Flat,
+    key: Key,
+) -> Result<Removed, NoMemory>
+    requires { world.now ≡ C.world core.now }
     ensures { IfOk result (IsExplained (C.world core.now, key)) }
 {
-    let world = core.flat()?;
     let names = world.names.as_slice();
     let path = path_of(alloc, Above::Live, names, Target::File(key.file))?;
     let fate = core.fate(key.file, key.number);
-    let hold = hold_in(&world, key.file, key.number, &fate)?;
+    let hold = hold_in(world, key.file, key.number, &fate)?;
     Ok(Removed {
         at: core.now(),
         key,

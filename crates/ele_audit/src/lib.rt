@@ -2,9 +2,11 @@
 //! what is known of one file. A contract sees the answers as rows, and their text as bytes.
 #![tactic(auto)]
 
+mod cleaned;
 mod gone;
 mod held;
 mod hold_text;
+mod last_copy;
 mod listing;
 mod meant;
 mod row;
@@ -20,6 +22,7 @@ mod version;
 pub use gone::{has_removals, removed};
 pub use held::hold_at;
 pub use hold_text::put_hold;
+pub use last_copy::{advance, copy_of};
 pub use listing::open_handles;
 pub use row::{OpenHandle, Removed};
 pub use seen::name_story;

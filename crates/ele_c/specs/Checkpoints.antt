@@ -5,7 +5,7 @@ use Rattle.ele_embed.specs.Checkpoints.{IsNotPutBack, PutsBack, begun, taken_out
 use Rattle.ele_embed.specs.Embedding.{Embedding, world_in}
 use Rattle.ele_embed.specs.Renewal.{IsNotRenewed, renewed_store}
 use Rattle.ele_embed.specs.declared.checkpoint.CheckpointError.{CheckpointError}
-use Rattle.ele_embed.specs.declared.renewal.RenewalError.{RenewalError}
+use Rattle.ele_keeper.specs.declared.renewal.RenewalError.{RenewalError}
 use Rattle.ele_model.specs.World.{World}
 use Rattle.ele_renewal.specs.Renewed.{IsClosed}
 

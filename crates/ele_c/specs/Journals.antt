@@ -4,7 +4,7 @@ use Rattle.ele_c_values.specs.Codes.{journal_code, opening_code, rest_number}
 use Rattle.ele_embed.specs.Embedding.{Embedding, State, journal_in}
 use Rattle.ele_embed.specs.Journals.{is_offered, settled}
 use Rattle.ele_embed.specs.Replays.{IsCutFile, IsNotOpened, IsOpenedStore, IsStopped, IsWhole}
-use Rattle.ele_embed.specs.declared.journal.JournalError.{JournalError}
+use Rattle.ele_keeper.specs.declared.journal.JournalError.{JournalError}
 use Rattle.ele_embed.specs.declared.opening.OpenJournalError.{OpenJournalError}
 use Rattle.ele_journal.specs.Journal.{journal, start}
 use Rattle.ele_journal.specs.declared.fault.Fault.{Fault}

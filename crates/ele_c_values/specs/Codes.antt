@@ -3,12 +3,12 @@ use Rattle.std.specs.Prelude.{ℕ, ◌+◌, ◌-◌, ◌^◌, length, Option, So
 use Rattle.ele_embed.specs.Embedding.{Embedding, reply_of}
 use Rattle.ele_embed.specs.declared.checkpoint.CheckpointError.{CheckpointError}
 use Rattle.ele_embed.specs.declared.checkpoint.CheckpointError.TheVariants as checkpoint
-use Rattle.ele_embed.specs.declared.journal.JournalError.{JournalError}
-use Rattle.ele_embed.specs.declared.journal.JournalError.TheVariants as journal
+use Rattle.ele_keeper.specs.declared.journal.JournalError.{JournalError}
+use Rattle.ele_keeper.specs.declared.journal.JournalError.TheVariants as journal
 use Rattle.ele_embed.specs.declared.opening.OpenJournalError.{OpenJournalError}
 use Rattle.ele_embed.specs.declared.opening.OpenJournalError.TheVariants as opening
-use Rattle.ele_embed.specs.declared.renewal.RenewalError.{RenewalError}
-use Rattle.ele_embed.specs.declared.renewal.RenewalError.TheVariants as renewal
+use Rattle.ele_keeper.specs.declared.renewal.RenewalError.{RenewalError}
+use Rattle.ele_keeper.specs.declared.renewal.RenewalError.TheVariants as renewal
 use Rattle.ele_journal.specs.declared.fault.Fault.{Fault}
 use Rattle.ele_journal.specs.declared.fault.Fault.TheVariants as faults
 use Rattle.ele_model.specs.Answers.{refusal_number, stop_number}

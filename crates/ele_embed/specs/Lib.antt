@@ -2,11 +2,8 @@ pub mod Embedding
 pub mod Takes
 pub mod Hears
 pub mod Text
-pub mod Kept
-pub mod Ends
 pub mod Checkpoints
 pub mod Renewal
 pub mod Journals
 pub mod Replays
-pub mod FilesKeep
 pub mod StateCode

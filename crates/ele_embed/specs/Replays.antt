@@ -3,7 +3,7 @@ use Rattle.std.specs.Prelude.{◌≡◌, ℕ, ◌<◌, ◌≤◌, Bool, true, fa
 use Rattle.ele_embed.specs.Embedding.{Embedding, State, Plain, Recorded, Journaled, opened}
 use Rattle.ele_embed.specs.declared.opening.OpenJournalError.{OpenJournalError}
 use Rattle.ele_embed.specs.declared.opening.OpenJournalError.TheVariants as errors
-use Rattle.ele_history.specs.Past.{begun_from, recorded}
+use Rattle.ele_history.specs.Past.{begun_from}
 use Rattle.ele_journal.specs.Changes.{last_check}
 use Rattle.ele_journal.specs.Journal.{first_check, journal, start}
 use Rattle.ele_journal.specs.Recovered.{IsCutAt, IsEnd, IsUnread}
@@ -11,8 +11,8 @@ use Rattle.ele_journal.specs.declared.fault.Fault.{Fault}
 use Rattle.ele_journal.specs.declared.fault.RecoverError.{RecoverError}
 use Rattle.ele_journal.specs.declared.fault.RecoverError.TheVariants as recover_errors
 use Rattle.ele_journaled.specs.JournalState.{idle}
+pub use Rattle.ele_keeper.specs.Replays.{after_changes, after_event, after_events}
 use Rattle.ele_model.specs.Start.{IsStart}
-use Rattle.ele_model.specs.Step.{step}
 use Rattle.ele_model.specs.World.{World}
 use Rattle.ele_model.specs.declared.event.Event.{Event}
 use Rattle.ele_model.specs.declared.refusal.Stop.TheVariants.{HistoryFull, NoMemory}
@@ -23,20 +23,6 @@ use Rattle.ele_well_formed.specs.declared.fault.FlatFault.{FlatFault}
 abbrev pub begun_state : Bool → World → State
 begun_state true base = Recorded (begun_from base 1)
 begun_state false base = Plain base None
-
--- the state after an event, after events, and after changes. In a history each event is an entry
-abbrev pub after_event : State → Event → State
-after_event (Plain w last) event = Plain ((step w event).1) last
-after_event (Recorded past) event = Recorded (recorded past event)
-after_event (Journaled kept journal) event = Journaled kept journal
-
-abbrev pub after_events : State → List Event → State
-after_events state [] = state
-after_events state (event ∷ events) = after_events (after_event state event) events
-
-abbrev pub after_changes : State → List (List Event) → State
-after_changes state [] = state
-after_changes state (change ∷ changes) = after_changes (after_events state change) changes
 
 -- the store of a file: it begins in the base, the changes are made, and nothing is under way
 abbrev pub store_of_file : Bool → World → List (List Event) → Embedding

@@ -1,16 +1,16 @@
 //! Stores that are made of rows. A contract sees the rows as a world.
 ghost use Rattle.std.specs.Prelude.{◌≡◌, ◌≢◌, ◌<◌, None, IfErr, IfOk, OnOk};
 ghost use Rattle.ele_embed.specs.Embedding.{Plain, Recorded, opened};
-ghost use Rattle.ele_embed.specs.Kept.{state_of};
+ghost use Rattle.ele_keeper.specs.Kept.{state_of};
 ghost use Rattle.ele_history.specs.Past.{begun_from, counted_from};
 ghost use Rattle.ele_model.specs.Start.{IsStart};
 ghost use Rattle.ele_model.specs.declared.refusal.Stop.TheVariants.{HistoryFull, NoMemory};
 ghost use Rattle.ele_well_formed.specs.Fault.{HasFault};
 
 use crate::Store;
-use crate::keeper::Keeper;
 use ele_core::{Core, FlatFault, FromFlatError};
 use ele_history::History;
+use ele_keeper::Keeper;
 use ele_model::{Flat, Stop};
 use ele_well_formed::fault_of;
 use std::alloc::Global;

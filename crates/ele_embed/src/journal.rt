@@ -2,35 +2,17 @@
 //! A contract sees the state of the store and its text.
 ghost use Rattle.std.specs.Prelude.{◌≡◌, ◌≤◌, IfErr, IfOk, OnErr, OnOk, is_some, false, true, vec_capacity};
 ghost use Rattle.ele_embed.specs.Embedding.{journal_in, world_in};
-ghost use Rattle.ele_embed.specs.FilesKeep.{IsSoundState};
-ghost use Rattle.ele_embed.specs.Journals.{IsNotBegun, IsNotGiven, begun_journal, compacted, compacted_state, is_offered, pended, pended_state, pending_text, settled};
-ghost use Rattle.ele_embed.specs.Kept.{journaled_state};
+ghost use Rattle.ele_embed.specs.Journals.{IsNotBegun, IsNotGiven, IsSoundState, begun_journal, compacted, is_offered, pended, settled};
 ghost use Rattle.ele_journal.specs.Journal.{first_check, start};
 ghost use Rattle.ele_journaled.specs.JournalState.{idle};
 ghost use Rattle.ele_model.specs.Start.{IsStart};
 ghost use Rattle.ele_output.specs.Outlet.{room};
 
-use crate::journaled::JournaledKeeper;
 use crate::{Store, append};
 use ele_journaled::{Journal, NewFile};
+use ele_keeper::{JournalError, compact_of, pending_of};
 use ele_model::NoMemory;
 use ele_output::ROOM;
-use std::alloc::Global;
-use thiserror::Error;
-
-/// Why a journal wasn't begun, or gave no bytes. The store is as it was.
-#[derive(Clone, Copy, Debug, PartialEq, Eq, Error)]
-pub enum JournalError {
-    /// The store has no journal.
-    #[error("the store has no journal")]
-    NoJournal,
-    /// The store has a journal already.
-    #[error("the store has a journal")]
-    HasJournal,
-    /// Memory was refused.
-    #[error("out of memory")]
-    NoMemory,
-}
 
 impl Store {
     /// Begins a journal, and makes the text the bytes that its file is to have. From now on each event
@@ -40,7 +22,7 @@ impl Store {
     /// `HasJournal` if there is one, `NoMemory` if memory is refused. Each error leaves the store and
     /// the text as they were.
     /// Cost: that of a copy of all rows and bytes, and of their checkpoint.
-    #[tactic(auto, using(crate::proofs::Journaling::journal_with, crate::proofs::Journaling::world_with))]
+    #[tactic(auto, using(ele_keeper::proofs::Journaling::journal_with, ele_keeper::proofs::Journaling::world_with))]
     pub fn begin_journal(&mut self) -> Result<(), JournalError>
         ensures ok { OnOk result (self.new ≡ begun_journal self.old) }
         ensures none { OnOk result (is_some (journal_in self.old.state) ≡ false) }
@@ -65,7 +47,7 @@ impl Store {
     /// `NoJournal` if there is none, `NoMemory` if memory is refused. Each error leaves the store and
     /// the text as they were.
     /// Cost: grows with the bytes, which it copies.
-    #[tactic(auto, using(crate::proofs::Journaling::journal_with))]
+    #[tactic(auto, using(ele_keeper::proofs::Journaling::journal_with))]
     pub fn pending(&mut self) -> Result<(), JournalError>
         ensures ok { OnOk result (self.new ≡ pended self.old) }
         ensures journal { OnOk result (is_some (journal_in self.old.state) ≡ true) }
@@ -84,7 +66,7 @@ impl Store {
     /// `NoJournal` if there is none, `NoMemory` if memory is refused. Each error leaves the store and
     /// the text as they were.
     /// Cost: that of a copy of all rows and bytes, and of their checkpoint.
-    #[tactic(auto, using(crate::proofs::Journaling::journal_with))]
+    #[tactic(auto, using(ele_keeper::proofs::Journaling::journal_with))]
     pub fn compact(&mut self) -> Result<(), JournalError>
         ensures ok { OnOk result (self.new ≡ compacted self.old) }
         ensures journal { OnOk result (is_some (journal_in self.old.state) ≡ true) }
@@ -103,7 +85,7 @@ impl Store {
     ///
     /// `NoJournal` if there is none.
     /// Cost: grows with the change, whose written events it drops.
-    #[tactic(auto, using(crate::proofs::Journaling::journal_with, crate::proofs::Giving::nothing_settled))]
+    #[tactic(auto, using(ele_keeper::proofs::Journaling::journal_with, ele_keeper::proofs::Giving::nothing_settled))]
     pub fn written(&mut self) -> Result<bool, JournalError>
         ensures new { self.new ≡ settled self.old }
         ensures value { IfOk result (λ given. given ≡ is_offered (journal_in self.old.state)) }
@@ -146,46 +128,6 @@ impl Store {
     {
         let flat = self.keeper.core().flat()?;
         Journal::begin(self.alloc, &flat)
-    }
-}
-
-// The bytes of the change under way.
-#[tactic(auto, using(crate::proofs::Giving::none_given, crate::proofs::Giving::some_given, crate::proofs::Journaling::journal_with))]
-fn pending_of(alloc: Global, keeper: &mut JournaledKeeper) -> Result<Vec<u8>, JournalError>
-    ensures bytes { IfOk result (λ bytes. bytes.items ≡ pending_text (journaled_state keeper.old)) }
-    ensures after { OnOk result (journaled_state keeper.new ≡ pended_state (journaled_state keeper.old)) }
-    ensures journal { OnOk result (is_some keeper.old.journal ≡ true) }
-    ensures err { IfErr result (IsNotGiven (journaled_state keeper.old)) }
-    ensures unchanged { OnErr result (journaled_state keeper.new ≡ journaled_state keeper.old) }
-{
-    let Some(journal) = &mut keeper.journal else {
-        return Err(JournalError::NoJournal);
-    };
-    match journal.pending() {
-        Ok(Some(bytes)) => Ok(bytes),
-        Ok(None) => Ok(Vec::new(alloc)),
-        Err(_) => Err(JournalError::NoMemory),
-    }
-}
-
-// The bytes of a new file.
-#[tactic(auto, using(crate::proofs::Journaling::journal_with, crate::proofs::Journaling::world_with))]
-fn compact_of(keeper: &mut JournaledKeeper) -> Result<Vec<u8>, JournalError>
-    ensures bytes { IfOk result (λ bytes. bytes.items ≡ start (world_in (journaled_state keeper.old))) }
-    ensures after { OnOk result (journaled_state keeper.new ≡ compacted_state (journaled_state keeper.old)) }
-    ensures journal { OnOk result (is_some keeper.old.journal ≡ true) }
-    ensures err { IfErr result (IsNotGiven (journaled_state keeper.old)) }
-    ensures unchanged { OnErr result (journaled_state keeper.new ≡ journaled_state keeper.old) }
-{
-    let Some(journal) = &mut keeper.journal else {
-        return Err(JournalError::NoJournal);
-    };
-    let Ok(flat) = keeper.bare.core().flat() else {
-        return Err(JournalError::NoMemory);
-    };
-    match journal.compact(&flat) {
-        Ok(bytes) => Ok(bytes),
-        Err(_) => Err(JournalError::NoMemory),
     }
 }
 

@@ -6,7 +6,7 @@ ghost use Rattle.std.specs.Prelude.{◌≡◌, ◌<◌, ◌≤◌, ◌+◌, ◌+
 ghost use Rattle.std.specs.Option.{option_copied};
 ghost use Rattle.ele_embed.specs.Embedding.{Plain, Recorded, events_in, fresh_plain, fresh_recorded, opened, reply_of, world_in, past_in};
 ghost use Rattle.ele_embed.specs.Hears.{Hears, explaining};
-ghost use Rattle.ele_embed.specs.Kept.{journaled_state, state_of};
+ghost use Rattle.ele_keeper.specs.Kept.{journaled_state, state_of};
 ghost use Rattle.ele_embed.specs.Takes.{CopiesRead, Runs, Passes, FoldsOrNot, TellsWhy, TellsAhead};
 ghost use Rattle.ele_embed.specs.Text.{IsLong, IsTold, IsRunBlock};
 ghost use Rattle.ele_model.specs.CountsOf.{counts_of};
@@ -17,25 +17,18 @@ ghost use Rattle.ele_runs.specs.declared.said.Said.TheVariants as said;
 mod checkpoint;
 mod from_flat;
 mod journal;
-mod journaled;
-mod keeper;
-pub mod laws;
 mod opening;
 mod renewal;
-mod why;
 
 pub use crate::checkpoint::CheckpointError;
 pub use crate::from_flat::OpenError;
-pub use crate::journal::JournalError;
-use crate::journaled::JournaledKeeper;
-use crate::keeper::Keeper;
 pub use crate::opening::{OpenJournalError, OpenedStore};
-pub use crate::renewal::RenewalError;
-use crate::why::explain_why;
 pub use ele_core::Copied;
 use ele_core::Core;
 use ele_history::History;
 pub use ele_journal::Fault;
+use ele_keeper::{JournaledKeeper, Keeper, explain_why};
+pub use ele_keeper::{JournalError, RenewalError};
 use ele_model::{
     Counts, Event, Limits, Moment, NoMemory, PassEnd, Refusal, Reply, Source, TaggedPath,
 };
@@ -59,7 +52,7 @@ pub struct Store {
 impl Model for Store {
     ghost use Rattle.std.specs.Prelude.{◌≤◌, vec_capacity};
     ghost use Rattle.ele_embed.specs.Embedding.{Embedding};
-    ghost use Rattle.ele_embed.specs.Kept.{journaled_state, state_of};
+    ghost use Rattle.ele_keeper.specs.Kept.{journaled_state, state_of};
     ghost use Rattle.ele_embed.specs.StateCode.{state_code};
     ghost use Rattle.ele_output.specs.Outlet.{room};
     ghost use Rattle.std.specs.Coded.{codes};

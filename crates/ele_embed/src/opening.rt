@@ -1,26 +1,24 @@
 //! Stores that are made of the bytes of their files.
 //! A contract sees the bytes as a base and changes.
-ghost use Rattle.std.specs.Prelude.{◌≡◌, ◌<◌, ◌≤◌, ◌++◌, List, ℕ, None, IfErr, IfOk, MatchResult, OnOk, is_some, length, false, true};
+ghost use Rattle.std.specs.Prelude.{◌≡◌, ◌<◌, ◌≤◌, ◌++◌, List, ℕ, None, IfErr, IfOk, MatchResult, OnOk, is_some, length, false};
 ghost use Rattle.ele_embed.specs.Embedding.{Journaled, Plain, Recorded, journal_in, opened};
-ghost use Rattle.ele_embed.specs.Kept.{state_of};
-ghost use Rattle.ele_embed.specs.Replays.{IsCutFile, IsNotOpened, IsOpenedStore, IsNotBegunIn, IsStopped, IsWhole, after_changes, after_event, after_events, begun_state, unread};
-ghost use Rattle.ele_history.specs.Past.{begun_from, recorded};
+ghost use Rattle.ele_keeper.specs.Kept.{state_of};
+ghost use Rattle.ele_embed.specs.Replays.{IsCutFile, IsNotOpened, IsOpenedStore, IsNotBegunIn, IsStopped, IsWhole, after_changes, begun_state, unread};
+ghost use Rattle.ele_history.specs.Past.{begun_from};
 ghost use Rattle.ele_journal.specs.Journal.{IsBase, journal, start};
 ghost use Rattle.ele_journaled.specs.Keeps.{AreGiven};
 ghost use Rattle.ele_journaled.specs.JournalState.{idle};
 ghost use Rattle.ele_model.specs.Start.{IsStart};
-ghost use Rattle.ele_model.specs.Step.{step};
 ghost use Rattle.ele_model.specs.World.{World};
 ghost use Rattle.ele_model.specs.declared.event.Event.{Event};
-ghost use Rattle.ele_runs.specs.Kept.{has_past};
 
 use crate::Store;
-use crate::keeper::Keeper;
 use ele_core::{Core, FlatFault};
 use ele_history::History;
-use ele_journal::{Change, Fault, RecoverError, Recovered, recover};
-use ele_journaled::{Journal, copy_of};
-use ele_model::{Event, Flat, FromFlat, Stop};
+use ele_journal::{Fault, RecoverError, Recovered, recover};
+use ele_journaled::Journal;
+use ele_keeper::{Keeper, replay};
+use ele_model::{Flat, FromFlat, Stop};
 use ele_well_formed::fault_of;
 use std::alloc::Global;
 use thiserror::Error;
@@ -123,7 +121,7 @@ fn unread(error: RecoverError) -> OpenJournalError
 }
 
 // The store of a base and of changes, with its journal.
-#[tactic(auto, using(crate::proofs::Journaling::journal_with))]
+#[tactic(auto, using(ele_keeper::proofs::Journaling::journal_with))]
 fn store_of(alloc: Global, found: Recovered, has_history: bool) -> Result<Store, OpenJournalError>
     ensures store { IfOk result (λ store. store ≡ opened (Journaled
         (after_changes (begun_state has_history found.flat) found.changes) (idle found.check))) }
@@ -149,7 +147,7 @@ fn store_of(alloc: Global, found: Recovered, has_history: bool) -> Result<Store,
 }
 
 // The store with the journal, if it has none.
-#[tactic(auto, using(crate::proofs::Journaling::journal_with))]
+#[tactic(auto, using(ele_keeper::proofs::Journaling::journal_with))]
 fn with_journal(store: Store, journal: Journal) -> Store
     requires { is_some (journal_in store.state) ≡ false }
     ensures { result ≡ record store { state = Journaled store.state journal } }
@@ -200,71 +198,6 @@ fn recorded_keeper(alloc: Global, flat: Flat) -> Result<Keeper, Stop>
 {
     match History::from_flat(alloc, flat, 1) {
         Ok(history) => Ok(Keeper::Recorded(history)),
-        Err(stop) => Err(stop),
-    }
-}
-
-// Makes changes, one after the other.
-fn replay(alloc: Global, keeper: &mut Keeper, changes: &[Change]) -> Result<(), Stop>
-    ensures ok { OnOk result
-        (state_of keeper.new ≡ after_changes (state_of keeper.old) changes.now) }
-    ensures err { IfErr result (λ stop. stop ≡ Stop.HistoryFull
-        → has_past (state_of keeper.old) ≡ true) }
-{
-    for change in changes {
-        run(alloc, keeper, change.as_slice())?;
-    }
-    Ok(())
-}
-
-// Answers events, one after the other.
-fn run(alloc: Global, keeper: &mut Keeper, events: &[Event]) -> Result<(), Stop>
-    ensures ok { OnOk result
-        (state_of keeper.new ≡ after_events (state_of keeper.old) events.now) }
-    ensures err { IfErr result (λ stop. stop ≡ Stop.HistoryFull
-        → has_past (state_of keeper.old) ≡ true) }
-    ensures past { has_past (state_of keeper.new) ≡ has_past (state_of keeper.old) }
-{
-    for event in events {
-        answer(alloc, keeper, event)?;
-    }
-    Ok(())
-}
-
-// Answers an event.
-fn answer(alloc: Global, keeper: &mut Keeper, event: &Event) -> Result<(), Stop>
-    ensures ok { OnOk result
-        (state_of keeper.new ≡ after_event (state_of keeper.old) event.now) }
-    ensures err { IfErr result (λ stop. stop ≡ Stop.HistoryFull
-        → has_past (state_of keeper.old) ≡ true) }
-    ensures past { has_past (state_of keeper.new) ≡ has_past (state_of keeper.old) }
-{
-    match keeper {
-        Keeper::Plain(core, _) => apply(core, event),
-        Keeper::Recorded(history) => record(alloc, history, event),
-    }
-}
-
-// Answers an event without a history.
-fn apply(core: &mut Core, event: &Event) -> Result<(), Stop>
-    ensures ok { OnOk result (core.new.world ≡ (step core.old.world event.now).1) }
-    ensures err { IfErr result (λ stop. stop ≡ Stop.NoMemory) }
-{
-    match core.apply(event) {
-        Ok(_) => Ok(()),
-        Err(_) => Err(Stop::NoMemory),
-    }
-}
-
-// Answers an event in a history, with a copy of it.
-fn record(alloc: Global, history: &mut History<Core>, event: &Event) -> Result<(), Stop>
-    ensures { OnOk result (history.new ≡ recorded history.old event.now) }
-{
-    let Ok(event) = copy_of(alloc, event) else {
-        return Err(Stop::NoMemory);
-    };
-    match history.record(event) {
-        Ok(_) => Ok(()),
         Err(stop) => Err(stop),
     }
 }

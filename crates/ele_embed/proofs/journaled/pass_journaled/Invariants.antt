@@ -1,6 +1,0 @@
-use Rattle.ele_embed.specs.Kept.{state_of}
-use Rattle.ele_embed.proofs.journaled.pass_journaled.Given as goal
-use Rattle.ele_runs.specs.Kept.{Journaled, RemovesMany}
-
-abbrev pub invariant-loop-removed : goal.invariant-loop-removed
-invariant-loop-removed l = RemovesMany (Journaled (state_of l.initial.keeper) l.initial.journal) l.removed (Journaled (state_of l.keeper) l.journal)

@@ -1,0 +1,5 @@
+mod Steps
+pub mod Journaling
+pub mod Giving
+mod Renewals
+mod Ends

@@ -1,0 +1,5 @@
+pub mod Kept
+pub mod Ends
+pub mod Replays
+pub mod Journals
+pub mod Renewal
