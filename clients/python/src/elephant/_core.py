@@ -109,10 +109,11 @@ class Core:
         # A history has each read as an event.
         self._keeps_reads = history
         self._short: Any = ctypes.create_string_buffer(SHORT)
-        self._self = c_void_p.from_param(self.handle)
+        self.as_argument = c_void_p.from_param(self.handle)
+        """The handle in the form in which ctypes passes it on."""
         into = c_void_p.from_param(self._short), c_size_t.from_param(SHORT)
         self._into_short = (_ZERO, *into, byref(self._number), byref(self._second))
-        self._text_into_short = self._self, _ZERO, *into, byref(self._number)
+        self._text_into_short = self.as_argument, _ZERO, *into, byref(self._number)
         self.whole, self.rest = 0, 0
         """Of a file: how many bytes of it keep the store, and what follows them, as `elephant_journal_open` says."""
         if file is not None:
@@ -272,7 +273,7 @@ class Core:
 
     def settle(self) -> None:
         """Says that the bytes of a file that were given last are on the disk."""
-        code = self.library.elephant_journal_written_short(self._self)
+        code = self.library.elephant_journal_written_short(self.as_argument)
         if code:
             self.refuse(code, "the file")
 
@@ -287,7 +288,7 @@ class Core:
             length = self.look(self.library.elephant_read, subject, name, len(name), tag, number)
             return self.kept_bytes(self.library.elephant_take, length)
         size = _SIZES[len(name)] if len(name) < len(_SIZES) else c_size_t.from_param(len(name))
-        which = self._self, name, size, _TAGS[tag], c_uint64.from_param(number) if number else _ZERO
+        which = self.as_argument, name, size, _TAGS[tag], c_uint64.from_param(number) if number else _ZERO
         code = self.library.elephant_read_short(*(which + self._into_short))
         if code == Forgotten.number:
             # A call that only looks leaves no detail.
@@ -304,7 +305,7 @@ class Core:
         """Returns what a handle reads."""
         if self._keeps_reads:
             return self.kept_bytes(self.library.elephant_take, self.look(self.library.elephant_read_handle, subject, handle))
-        code = self.library.elephant_read_handle_short(self._self, c_uint64.from_param(handle), *self._into_short)
+        code = self.library.elephant_read_handle_short(self.as_argument, c_uint64.from_param(handle), *self._into_short)
         if code:
             self.refuse(code, subject)
         length = self._number.value

@@ -17,6 +17,7 @@ from itertools import count
 from typing import Optional
 
 from ._answers import Limits
+from ._at_once import DONE, NOT_ORDINARY, NOTHING, SYNC, AtOnce, at_once
 from ._core import Core, limits_in
 from ._errors import BadJournal, ElephantError, JournalDamaged, JournalError, JournalLocked, JournalLost
 from ._space import FULL, NoSpace, allocate
@@ -139,6 +140,7 @@ class Disk:
         """Whether there are changes that no sync has followed."""
         self._reserved = 0
         """Up to which byte the disk has space for the file, if that is more than its length."""
+        self._at_once: Optional[AtOnce] = None
         self._deadline = time.monotonic() + wait
         try:
             self._find()
@@ -378,6 +380,42 @@ class Disk:
             raise JournalLost(f"{self.path} was deleted or renamed, so what is written to it would be lost") from fault
         if (named.st_ino, named.st_dev) != self.identity or (self.is_sound and named.st_size != self._size):
             raise JournalLost(f"{self.path} was replaced or changed by another program, so what is written to it would be lost")
+
+    def use(self, core: Core) -> None:
+        """Prepares the appends of changes of a store of this library by one call."""
+        self._at_once = at_once(core, self._syncs_each)
+
+    def append_at_once(self, core: Core) -> Optional[int]:
+        """Adds the change that is under way in a store by one call of C, and says so to the store. Returns the code of that, or None if
+        there is more to do than to write it, or no such call: then nothing is done. If it fails, the file is as before."""
+        call = self._at_once
+        if call is None or self._is_torn or not call.is_of(core):
+            return None
+        row = call.row
+        call.name(self.path, self.identity)
+        row.file, row.length, row.size = self.file, self.length, self._size
+        code = call.append(core)
+        step = row.step
+        if step == DONE:
+            self.length, self.has_unsynced = row.length, not self._syncs_each
+            return code
+        if step == NOT_ORDINARY:
+            return None
+        if step != NOTHING:
+            self._give_up(step == SYNC, row.error)
+        if code:
+            core.refuse(code, "text")
+        return 0
+
+    def _give_up(self, is_sync: bool, number: int) -> None:
+        """Cuts off what an append left that failed. Raises JournalError if the system refused it, with that number."""
+        fault = OSError(number, os.strerror(number)) if number else None
+        if is_sync:
+            self.has_unsynced = True
+            self._stuck = f"{self.path} can't be synced: {fault}"
+        self._take_back()
+        if fault is not None:
+            raise JournalError(self._stuck if is_sync else f"{self.path} can't be written: {fault}") from fault
 
     def append(self, text: bytes) -> None:
         """Adds a change. If it fails, the file is as before."""

@@ -115,6 +115,8 @@ class FileStore(Store):
             # As it is: what isn't read may be damaged.
             self._disk.leave()
             raise
+        if self._core is not None:
+            self._disk.use(self._core)
         self._renewal_time = _RenewalTime(self._disk.limits)
         self._tidies = tidy and not read_only
         if self._tidies:
@@ -195,11 +197,27 @@ class FileStore(Store):
             if self._is_unsure:
                 self.compact()
                 return
-            text = core.text_of(core.library.elephant_journal_pending)
-            if text:
-                self._change_file(partial(self._disk.append, text), core.settle)
-                if self._tidies:
-                    self._tidy()
+            length = self._disk.length
+            if not self._append_at_once(core):
+                text = core.text_of(core.library.elephant_journal_pending)
+                if text:
+                    self._change_file(partial(self._disk.append, text), core.settle)
+            if self._tidies and self._disk.length != length:
+                self._tidy()
+
+    def _append_at_once(self, core: Core) -> bool:
+        """Does the ordinary commit by one call of C, as `_change_file` does it by several. Returns False if that isn't one, or if there is no
+        such call."""
+        self._is_unsure = True
+        try:
+            code = self._disk.append_at_once(core)
+        except ElephantError:
+            self._is_unsure = False
+            raise
+        if code:
+            core.refuse(code, "the file")
+        self._is_unsure = False
+        return code is not None
 
     def sync(self) -> None:
         """Waits until all commits are on the disk. After a failure call `compact`, which writes everything anew."""
