@@ -1,4 +1,4 @@
-"""Builds the wheel: the package, and in it the shared library with what is known of its proof, if `./elephant library` has built one.
+"""Builds the wheel: the package, and in it the shared libraries with what is known of their proof, if `./elephant library` has built them.
 
 pyproject.toml has all that setuptools needs to know beside it.
 """
@@ -21,6 +21,8 @@ except ImportError:  # before setuptools 70.1
 HERE = Path(__file__).resolve().parent
 BUILT = HERE.parent.parent / "out"
 LIBRARY, STAMP = BUILT / "libelephant.so", BUILT / "library.stamp"
+# A commit to a file as one call. Without it, or with an older C library than it asks for, the package makes several.
+APPEND = BUILT / "libelephant_file.so"
 # What pip of Python 3.9 calls the platform with this version of the GNU C library.
 OLD_NAMES = {17: "manylinux2014_x86_64"}
 
@@ -42,7 +44,7 @@ class Package(Distribution):
 
 
 class WithLibrary(build_py):
-    """Copies the library and what is known of its proof beside the modules. An editable installation finds them in out/."""
+    """Copies the libraries and what is known of their proof beside the modules. An editable installation finds them in out/."""
 
     def run(self) -> None:
         super().run()
@@ -51,7 +53,8 @@ class WithLibrary(build_py):
             return
         folder = Path(self.build_lib, "elephant")
         folder.mkdir(parents=True, exist_ok=True)
-        shutil.copyfile(LIBRARY, folder / LIBRARY.name)
+        for built in filter(Path.is_file, (LIBRARY, APPEND)):
+            shutil.copyfile(built, folder / built.name)
         if STAMP.is_file():
             commit, kit, day = STAMP.read_text(encoding="utf-8").splitlines()[:3]
             (folder / "PROVENANCE").write_text(f"commit {commit}\nproved on {day} by {kit}\n", encoding="utf-8")

@@ -1,9 +1,12 @@
-"""The C library: how its two files are made from the crate `ele_c`, and where `./elephant install` puts them.
+"""The C library: how its files are made from the crate `ele_c`, and where `./elephant install` puts them.
 
 The kit's `rattle build` writes one position-independent object file. It calls the C library, and three functions of the kit that
 allocate memory. clients/c/src/elephant.c, which tools/pages/surface prints, has the calls of the header over the exports of the crate.
 This module links all of these into one object, makes every name but `elephant_*` local, and builds libelephant.a and libelephant.so
 from it. It uses the kit's own LLVM tools, so building needs no C compiler of the machine.
+
+libelephant.so opens no file. Beside it is libelephant_file.so, which is no part of it: the one call of clients/c/src/elephant_file_append.c,
+by which the Python package commits to a file.
 """
 
 import os
@@ -23,16 +26,25 @@ HEADER = ROOT / "include" / "elephant.h"
 CALLS = ROOT / "clients" / "c" / "src" / "elephant.c"
 # A store in a file: source that a program compiles, over the library.
 FILE_HEADER, FILE_SOURCE = ROOT / "include" / "elephant_file.h", ROOT / "clients" / "c" / "src" / "elephant_file.c"
-# The kit's clang has no headers of C. These have what elephant.h takes of them.
+# A commit to a file as one call.
+APPEND_HEADER, APPEND_SOURCE = (CALLS.with_name(f"elephant_file_append.{it}") for it in "hc")
+# The kit's clang has no headers of C. These have what elephant.h and the commit take of them, as glibc has it on x86-64.
 HEADERS = {
     "stddef.h": "typedef __SIZE_TYPE__ size_t;\n",
     "stdint.h": "typedef __INT32_TYPE__ int32_t;\ntypedef __UINT32_TYPE__ uint32_t;\ntypedef __UINT64_TYPE__ uint64_t;\n"
     "#define UINT64_MAX __UINT64_MAX__\n",
+    "errno.h": "int *__errno_location(void);\n#define errno (*__errno_location())\nenum { EINTR = 4, ENOSPC = 28 };\n",
+    "fcntl.h": "enum { POSIX_FADV_DONTNEED = 4 };\nint posix_fadvise(int file, long place, long length, int advice);\n",
+    "sys/stat.h": "struct stat { unsigned long st_dev, st_ino, before[4]; long st_size, after[11]; };\n"
+    "int stat(const char *path, struct stat *found);\n",
+    "unistd.h": "typedef long off_t, ssize_t;\nssize_t pwrite(int file, const void *bytes, __SIZE_TYPE__ length, off_t place);\n"
+    "int fdatasync(int file);\n",
 }
 COMPILED = ["--target=x86_64-unknown-linux-gnu", "-std=c11", "-O2", "-fPIC", "-Wall", "-Wextra", "-Wconversion", "-Werror", "-nostdinc"]
-STATIC, SHARED = OUT / "libelephant.a", OUT / "libelephant.so"
+STATIC, SHARED, APPEND = OUT / "libelephant.a", OUT / "libelephant.so", OUT / "libelephant_file.so"
 # The number goes up when a program that was linked with an earlier library can't run with this one.
-SONAME = "libelephant.so.1"
+SONAME, APPEND_SONAME = "libelephant.so.1", "libelephant_file.so.1"
+SECURED = ["-z", "defs", "-z", "relro", "-z", "now", "--build-id", "--gc-sections"]
 EXPORTED = "elephant_*"
 CONFIG = """prefix={prefix}
 libdir=${{prefix}}/{libdir}
@@ -46,7 +58,8 @@ Libs: -L${{libdir}} -lelephant
 Cflags: -I${{includedir}}
 """
 BUILT_LIBRARY = building.Product(
-    "library", CRATE, OUT / "library.stamp", {STATIC: 0o644, SHARED: 0o755}, "./elephant library", (HEADER, CALLS),
+    "library", CRATE, OUT / "library.stamp", {STATIC: 0o644, SHARED: 0o755, APPEND: 0o755}, "./elephant library",
+    (HEADER, CALLS, APPEND_HEADER, APPEND_SOURCE),
 )
 
 
@@ -114,27 +127,39 @@ class Progress:
             self._say(f"{CRATE}: {found[1]} of {found[2]} functions proved")
 
 
-def compile_calls(folder: Path) -> Path:
-    """Compiles the calls of the header in a folder, and returns the object."""
+def compiled(source: Path, folder: Path) -> Path:
+    """Compiles a source over the header in a folder, and returns the object."""
     for name, text in HEADERS.items():
+        (folder / name).parent.mkdir(exist_ok=True)
         (folder / name).write_text(text, encoding="ascii")
-    made = folder / "calls.o"
-    run_kit("clang", *COMPILED, f"-I{HEADER.parent}", "-isystem", folder, "-c", CALLS, "-o", made)
+    made = folder / f"{source.stem}.o"
+    run_kit("clang", *COMPILED, f"-I{HEADER.parent}", "-isystem", folder, "-c", source, "-o", made)
     return made
 
 
-def pack(archive: Path) -> dict[Path, bytes]:
-    """Returns the bytes of the static and the shared library, made from the crate's archive and the calls of the header."""
-    libc = [building.kit_file(f"toolchain/lib/{it}") for it in ("libc.so.6", "ld-linux-x86-64.so.2")]
+def libc() -> list[Path]:
+    """Returns the C library of the kit."""
+    return [building.kit_file(f"toolchain/lib/{it}") for it in ("libc.so.6", "ld-linux-x86-64.so.2")]
+
+
+def pack_append() -> bytes:
+    """Returns the bytes of the library with the commit to a file. It takes its calls of the other library as pointers."""
     with tempfile.TemporaryDirectory() as folder:
-        whole, local, static, shared = (Path(folder, it) for it in ("whole.o", "elephant.o", STATIC.name, SHARED.name))
-        objects = [compile_calls(Path(folder)), building.kit_file("c/liblibc_c.a")]
+        made, source = Path(folder, APPEND.name), compiled(APPEND_SOURCE, Path(folder))
+        run_kit("ld.lld", "-shared", *SECURED, "-soname", APPEND_SONAME, "-o", made, source, "--as-needed", *libc())
+        return made.read_bytes()
+
+
+def pack(archive: Path) -> dict[Path, bytes]:
+    """Returns the bytes of the libraries, made from the crate's archive, the calls of the header and the commit to a file."""
+    with tempfile.TemporaryDirectory() as folder:
+        whole, local, static, shared = (Path(folder, it) for it in ("whole.o", "local.o", STATIC.name, SHARED.name))
+        objects = [compiled(CALLS, Path(folder)), building.kit_file("c/liblibc_c.a")]
         run_kit("ld.lld", "-r", "-o", whole, "--whole-archive", archive, "--no-whole-archive", *objects)
         run_kit("llvm-objcopy", "--wildcard", f"--keep-global-symbol={EXPORTED}", whole, local)
         run_kit("llvm-ar", "rcsD", static, local)
-        secured = ["-z", "defs", "-z", "relro", "-z", "now", "--build-id", "--gc-sections"]
-        run_kit("ld.lld", "-shared", *secured, "-soname", SONAME, "-o", shared, local, "--as-needed", *libc)
-        return {STATIC: static.read_bytes(), SHARED: shared.read_bytes()}
+        run_kit("ld.lld", "-shared", *SECURED, "-soname", SONAME, "-o", shared, local, "--as-needed", *libc())
+        return {STATIC: static.read_bytes(), SHARED: shared.read_bytes(), APPEND: pack_append()}
 
 
 def build_and_install(sums: building.Sums) -> None:
@@ -153,6 +178,8 @@ def installed(prefix: Path, folder: Path = OUT, libdir: str = "lib") -> dict[str
         f"{libdir}/{STATIC.name}": LaidFile(0o644, (folder / STATIC.name).read_bytes()),
         f"{libdir}/{SONAME}": LaidFile(0o644, (folder / SHARED.name).read_bytes()),
         f"{libdir}/{SHARED.name}": LaidLink(SONAME),
+        f"{libdir}/{APPEND_SONAME}": LaidFile(0o644, (folder / APPEND.name).read_bytes()),
+        f"{libdir}/{APPEND.name}": LaidLink(APPEND_SONAME),
         f"{libdir}/pkgconfig/elephant.pc": LaidFile(0o644, config.encode()),
     }
 

@@ -50,11 +50,11 @@ def glibc_of(data: bytes) -> int:
 
 
 def of_python(wheel: Path) -> Laid:
-    """Returns the files of the Python package: those of the wheel, without the library, and without the list of the wheel's files."""
+    """Returns the files of the Python package: those of the wheel, without the libraries, and without the list of the wheel's files."""
     laid: Laid = {}
     with zipfile.ZipFile(wheel) as archive:
         for name in archive.namelist():
-            if not name.endswith((libraries.SHARED.name, "/RECORD", "/WHEEL", "/LICENSE")):
+            if not name.endswith((libraries.SHARED.name, libraries.APPEND.name, "/RECORD", "/WHEEL", "/LICENSE")):
                 laid[f"{PYTHON}/{name}"] = LaidFile(0o644, archive.read(name))
     return laid
 
@@ -106,11 +106,11 @@ def control_files(laid: Laid, libc: int) -> Laid:
     size = sum((len(it.data) + 1023) // 1024 for it in held.values())
     form = (PACKAGING / "control").read_text(encoding="utf-8")
     sums = "".join(f"{hashlib.md5(it.data).hexdigest()}  usr/{path}\n" for path, it in sorted(held.items()))
-    number = libraries.SONAME.rpartition(".")[2]
+    numbers = {name.partition(".")[0]: name.rpartition(".")[2] for name in (libraries.SONAME, libraries.APPEND_SONAME)}
     return {
         "control": text(form.format(version=version(), maintainer=MAINTAINER, size=size, libc=libc)),
         "md5sums": text(sums),
-        "shlibs": text(f"libelephant {number} elephant (>= {building.version()})\n"),
+        "shlibs": text("".join(f"{name} {number} elephant (>= {building.version()})\n" for name, number in numbers.items())),
         "triggers": text("activate-noawait ldconfig\n"),
         **{name: LaidFile(0o755, (PACKAGING / name).read_bytes()) for name in ("postinst", "prerm")},
     }

@@ -74,7 +74,7 @@ def wheel(into: Path, room: Path) -> Path:
     if python is None:
         raise Unavailable("the wheel takes pip, wheel and setuptools: python3-pip, python3-wheel and python3-setuptools of Debian")
     package = copy("clients/python", room, ["tests", "stubs"])
-    for name in ("libelephant.so", "library.stamp"):
+    for name in ("libelephant.so", "libelephant_file.so", "library.stamp"):
         (room / "out").mkdir(exist_ok=True)
         shutil.copyfile(building.OUT / name, room / "out" / name)
     settle(room)

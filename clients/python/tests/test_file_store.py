@@ -46,7 +46,14 @@ HEAD = b"ELEPHANT JOURNAL\x02"
 
 
 class InFolder(unittest.TestCase):
+    is_alone = False
+    """Whether Python makes each call of the system, as without `libelephant_file.so`."""
+
     def setUp(self) -> None:
+        if self.is_alone:
+            alone = mock.patch("elephant._disk.at_once", return_value=None)
+            alone.start()
+            self.addCleanup(alone.stop)
         folder = tempfile.TemporaryDirectory(dir=MEMORY)
         self.addCleanup(folder.cleanup)
         self.folder = Path(folder.name)
@@ -549,6 +556,22 @@ class Damage(InFolder):
         with self.assertRaises(JournalDamaged) as caught:
             self.open()
         self.assertEqual(caught.exception.offset, ends[2])
+
+
+class CommitsAlone(Commits):
+    is_alone = True
+
+
+class RollbacksAlone(Rollbacks):
+    is_alone = True
+
+
+class TidyingAlone(Tidying):
+    is_alone = True
+
+
+class DamageAlone(Damage):
+    is_alone = True
 
 
 if __name__ == "__main__":

@@ -184,6 +184,8 @@ def is_compacted(store: FileStore) -> bool:
 
 
 class Faults(InFolder):
+    is_alone = True
+
     def calls_of_a_run(self) -> list[str]:
         """Returns the names of the calls that a run makes if none fails."""
         with mock.patch("elephant._disk.os", Calls()) as calls:
@@ -324,6 +326,8 @@ class Faults(InFolder):
 class Interruptions(InFolder):
     """An exception that isn't the store's ends a call midway, as Ctrl-C."""
 
+    is_alone = True
+
     def interrupted(self, where: str, call: Callable[[], object]) -> None:
         with mock.patch(where, side_effect=KeyboardInterrupt):
             self.assertRaises(KeyboardInterrupt, call)
@@ -447,6 +451,10 @@ class FullDisks(InFolder):
         store.close()
         with self.open(read_only=True) as store:
             self.assertEqual((store.read("/f"), store.read("/f", version=committed + 1)), (b"short", b"%d " % committed * 2000))
+
+
+class FullDisksAlone(FullDisks):
+    is_alone = True
 
 
 if __name__ == "__main__":

@@ -393,7 +393,7 @@ class Disk:
             return None
         row = call.row
         call.name(self.path, self.identity)
-        row.file, row.length, row.size = self.file, self.length, self._size
+        row.file, row.length, row.size, row.is_torn = self.file, self.length, self._size, 0
         code = call.append(core)
         step = row.step
         if step == DONE:
