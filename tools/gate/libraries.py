@@ -5,8 +5,8 @@ allocate memory. clients/c/src/elephant.c, which tools/pages/surface prints, has
 This module links all of these into one object, makes every name but `elephant_*` local, and builds libelephant.a and libelephant.so
 from it. It uses the kit's own LLVM tools, so building needs no C compiler of the machine.
 
-libelephant.so opens no file. Beside it is libelephant_file.so, which is no part of it: the one call of clients/c/src/elephant_file_append.c,
-by which the Python package commits to a file.
+libelephant.so opens no file. Beside it is libelephant_file.so, which is no part of it: the one call of
+clients/c/src/elephant_file_append.c, by which the Python package commits to a file.
 """
 
 import os

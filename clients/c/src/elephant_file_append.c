@@ -1,6 +1,10 @@
 /* The ordinary commit of a store in a file as one call, for a language in which each call takes long: what elephant_file_commit does if the
- * space ahead has room for the change, and nothing that failed is to be mended. It is built as libelephant_file.so, and the Python package
- * loads that. Whatever else there is to do, or to refuse, it leaves to its caller before anything is written. */
+ * space ahead has room for the change. It is built as libelephant_file.so, and the Python package loads that. Whatever else there is to do,
+ * or to refuse, it leaves to its caller before anything is written. */
+#ifndef _DEFAULT_SOURCE
+#define _DEFAULT_SOURCE
+#endif
+
 #include "elephant_file_append.h"
 
 #include <errno.h>
@@ -11,7 +15,7 @@
 /* Whether the path still names this file, nobody else changed its length, and so many bytes fit into its space ahead. */
 static int is_ordinary(const elephant_append *it, uint64_t length) {
     struct stat named;
-    if (it->is_torn || length > it->size - it->length || stat(it->path, &named)) return 0;
+    if (length > it->size - it->length || stat(it->path, &named)) return 0;
     return named.st_ino == it->inode && named.st_dev == it->device && (uint64_t)named.st_size == it->size;
 }
 
@@ -54,18 +58,14 @@ static int sync_data(int file) {
 static int32_t put(const elephant *store, elephant_append *it, uint64_t length) {
     int32_t code;
     it->step = ELEPHANT_APPEND_WRITE;
-    it->is_torn = 1;
     code = write_text(store, it, length);
     if (code || it->error) return code;
-    it->has_unsynced = 1;
     if (it->syncs) {
         it->step = ELEPHANT_APPEND_SYNC;
         it->error = sync_data(it->file);
         if (it->error) return 0;
-        it->has_unsynced = 0;
     }
     it->length += length;
-    it->is_torn = 0;
     return 0;
 }
 

@@ -22,15 +22,13 @@ typedef struct elephant_append {
     int32_t (*pending)(elephant *store, uint64_t *length);
     int32_t (*answer)(const elephant *store, uint64_t offset, void *into, size_t size, uint64_t *copied);
     int32_t (*written)(elephant *store);
-    const char *path;      /* absolute, without links */
+    const char *path;       /* absolute, without links */
     uint64_t inode, device; /* of the open file */
-    uint64_t length, size; /* how many bytes count, and the file's length with the space ahead */
+    uint64_t length, size;  /* how many bytes count, and the file's length with the space ahead. After the changes it has nothing else */
     int32_t file;
-    uint32_t syncs;        /* 1: a call waits for the disk */
-    uint32_t is_torn;      /* 1: there may be bytes after the changes, which are cut off before the next one */
-    uint32_t has_unsynced; /* 1: there are changes that no sync has followed */
-    uint32_t step;         /* enum elephant_append_step */
-    int32_t error;         /* why the write or the sync failed, as in <errno.h>; else 0 */
+    uint32_t syncs;         /* 1: a call waits for the disk */
+    uint32_t step;          /* enum elephant_append_step */
+    int32_t error;          /* why the write or the sync failed, as in <errno.h>; else 0 */
     unsigned char piece[1 << 14];
 } elephant_append;
 

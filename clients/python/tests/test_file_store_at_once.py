@@ -215,7 +215,7 @@ class OneCall(InFolder):
         def pending(handle: int, length: int) -> int:
             threading.Thread(target=ran.set).start()
             self.assertTrue(ran.wait(30))
-            return real(handle, length)
+            return int(real(handle, length))
 
         waits = PENDING(pending)
         self.call_of(store).row.pending = ctypes.cast(waits, c_void_p).value
@@ -257,11 +257,11 @@ class OneCall(InFolder):
     def test_without_the_call(self) -> None:
         """No library is beside that of the store, or it has other calls, or its row is of another size."""
         store = self.ready()
-        library = self.call_of(store)._library
+        library = self.call_of(store).library
         for beside in ("/nowhere/libelephant.so", os.path.join(os.path.dirname(os.__file__), "libelephant.so")):
             self.assertIsNone(self.beside(library, beside, store))
         call = self.call_of(store)
-        call._size = c_size_t.from_param(8)
+        call._words = call._words[0], c_size_t.from_param(8)
         store.commit()
         self.assertEqual((call.row.step, self.found()), (NOT_ORDINARY, b"two"))
 

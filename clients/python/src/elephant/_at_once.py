@@ -26,8 +26,8 @@ class _Row(Structure):
 
     _fields_ = [
         ("pending", c_void_p), ("answer", c_void_p), ("written", c_void_p), ("path", c_char_p), ("inode", c_uint64), ("device", c_uint64),
-        ("length", c_uint64), ("size", c_uint64), ("file", c_int32), ("syncs", c_uint32), ("is_torn", c_uint32), ("has_unsynced", c_uint32),
-        ("step", c_uint32), ("error", c_int32), ("piece", c_char * (1 << 14)),
+        ("length", c_uint64), ("size", c_uint64), ("file", c_int32), ("syncs", c_uint32), ("step", c_uint32), ("error", c_int32),
+        ("piece", c_char * (1 << 14)),
     ]
 
 
@@ -47,28 +47,24 @@ class AtOnce:
     """The call for a file that stays open, and the row that it reads and changes."""
 
     def __init__(self, library: Library, call: Any, syncs: bool) -> None:
-        self._library, self._call = library, call
+        self.library = library
+        """Whose calls it makes."""
         self.row: Any = _Row(syncs=syncs)
         for name in ("pending", "answer", "written"):
             of_library = "elephant_answer" if name == "answer" else f"elephant_journal_{name}"
             setattr(self.row, name, ctypes.cast(library[of_library], c_void_p).value)
-        self._row_at, self._size = byref(self.row), c_size_t.from_param(sizeof(_Row))
+        self._call, self._words = call, (byref(self.row), c_size_t.from_param(sizeof(_Row)))
         self._identity: Optional[tuple[int, int]] = None
 
-    def is_of(self, core: Core) -> bool:
-        """Whether the store is one of the library whose calls this makes."""
-        return core.library is self._library
-
-    def name(self, path: str, identity: tuple[int, int]) -> None:
-        """Notes what the path is to name. It does so at once if it is the same as before."""
+    def append(self, core: Core, path: str, identity: tuple[int, int]) -> int:
+        """Makes the call for a file, which the path has to name, and returns its code. The row has how far it came. `identity` is the same
+        object as long as both are the same."""
+        row = self.row
         if identity is not self._identity:
-            self.row.path, (self.row.inode, self.row.device), self._identity = os.fsencode(path), identity, identity
-
-    def append(self, core: Core) -> int:
-        """Makes the call, and returns its code. The row has how far it came."""
-        code: int = self._call(core.as_argument, self._row_at, self._size)
+            row.path, (row.inode, row.device), self._identity = os.fsencode(path), identity, identity
+        code: int = self._call(core.as_argument, *self._words)
         if code == _OTHER:
-            self.row.step = NOT_ORDINARY
+            row.step = NOT_ORDINARY
         return code
 
 

@@ -389,12 +389,11 @@ class Disk:
         """Adds the change that is under way in a store by one call of C, and says so to the store. Returns the code of that, or None if
         there is more to do than to write it, or no such call: then nothing is done. If it fails, the file is as before."""
         call = self._at_once
-        if call is None or self._is_torn or not call.is_of(core):
+        if call is None or self._is_torn or core.library is not call.library:
             return None
         row = call.row
-        call.name(self.path, self.identity)
-        row.file, row.length, row.size, row.is_torn = self.file, self.length, self._size, 0
-        code = call.append(core)
+        row.file, row.length, row.size = self.file, self.length, self._size
+        code = call.append(core, self.path, self.identity)
         step = row.step
         if step == DONE:
             self.length, self.has_unsynced = row.length, not self._syncs_each

@@ -206,8 +206,8 @@ class FileStore(Store):
                 self._tidy()
 
     def _append_at_once(self, core: Core) -> bool:
-        """Does the ordinary commit by one call of C, as `_change_file` does it by several. Returns False if that isn't one, or if there is no
-        such call."""
+        """Does the ordinary commit by one call of C, as `_change_file` does it by several. Returns False if it is another one, or if there
+        is no such call."""
         self._is_unsure = True
         try:
             code = self._disk.append_at_once(core)
