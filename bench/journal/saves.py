@@ -1,7 +1,8 @@
 """saves WORD PATH COUNT: what saves.c measures, from Python: a save of 100 bytes over 100 files, in microseconds of the clock.
 
-memory, asked, each: a `Store`, and a `FileStore` with `fsync="sync"` and with `"always"`. sqlite: Python's sqlite3 as in saves.c. open: how
-long a `FileStore` takes to open the file at the path, in seconds, and the most memory of this process, in MiB.
+memory, asked, each: a `Store`, and a `FileStore` with `fsync="sync"` and with `"always"`. alone: as asked, without libelephant_file.so.
+sqlite: Python's sqlite3 as in saves.c. open: how long a `FileStore` takes to open the file at the path, in seconds, and the most memory of
+this process, in MiB.
 """
 
 from __future__ import annotations
@@ -13,6 +14,7 @@ import time
 from collections.abc import Callable
 from pathlib import Path
 from typing import Any
+from unittest import mock
 
 from elephant import FileStore, Store
 
@@ -50,6 +52,11 @@ def in_file(path: str, count: int, **how: Any) -> float:
         return timed(save, store.sync, count)
 
 
+def alone_in_file(path: str, count: int) -> float:
+    with mock.patch("elephant._disk.at_once", return_value=None):
+        return in_file(path, count, fsync="sync")
+
+
 def in_sqlite(path: str, count: int) -> float:
     pieces = [it.strip().strip(";").strip('"') for it in SCHEMA.partition("=")[2].splitlines()]
     base = sqlite3.connect(path, isolation_level=None)
@@ -76,6 +83,7 @@ def main() -> int:
     ways: dict[str, Callable[[], float]] = {
         "memory": lambda: in_memory(count),
         "asked": lambda: in_file(path, count, fsync="sync"),
+        "alone": lambda: alone_in_file(path, count),
         "each": lambda: in_file(path, count),
         "sqlite": lambda: in_sqlite(path, count),
     }
