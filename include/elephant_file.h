@@ -8,7 +8,7 @@
  *     if (elephant_file_commit(f)) return 1;                                         // now the save is on the disk
  *     elephant_file_close(f);
  *
- * It comes as source: compile elephant_file.c with your program. It runs on Linux, has no globals, starts no thread and handles no signal.
+ * It comes as source: compile elephant_file.c with your program, and leave the two headers that it includes beside it. It runs on Linux, has no globals, starts no thread and handles no signal.
  *
  * THE FILE is a journal: a checkpoint, and the changes since. A change is what you did with the store between two commits. The file has
  * each change wholly or not at all, whatever happens. It is made with mode 600, since only its owner should read what is in it.

@@ -26,19 +26,23 @@ HEADER = ROOT / "include" / "elephant.h"
 CALLS = ROOT / "clients" / "c" / "src" / "elephant.c"
 # A store in a file: source that a program compiles, over the library.
 FILE_HEADER, FILE_SOURCE = ROOT / "include" / "elephant_file.h", ROOT / "clients" / "c" / "src" / "elephant_file.c"
+# What that source includes, from beside it.
+FILE_PARTS = tuple(FILE_SOURCE.with_name(f"elephant_file_{it}.h") for it in ("ahead", "calls"))
 # A commit to a file as one call.
 APPEND_HEADER, APPEND_SOURCE = (CALLS.with_name(f"elephant_file_append.{it}") for it in "hc")
 # The kit's clang has no headers of C. These have what elephant.h and the commit take of them, as glibc has it on x86-64.
 HEADERS = {
     "stddef.h": "typedef __SIZE_TYPE__ size_t;\n",
     "stdint.h": "typedef __INT32_TYPE__ int32_t;\ntypedef __UINT32_TYPE__ uint32_t;\ntypedef __UINT64_TYPE__ uint64_t;\n"
+    "typedef __INT64_TYPE__ int64_t;\n"
     "#define UINT64_MAX __UINT64_MAX__\n",
     "errno.h": "int *__errno_location(void);\n#define errno (*__errno_location())\nenum { EINTR = 4, ENOSPC = 28 };\n",
-    "fcntl.h": "enum { POSIX_FADV_DONTNEED = 4 };\nint posix_fadvise(int file, long place, long length, int advice);\n",
+    "fcntl.h": "enum { POSIX_FADV_DONTNEED = 4, O_CLOEXEC = 02000000 };\nint open(const char *path, int flags, ...);\n"
+    "int posix_fadvise(int file, long place, long length, int advice);\n",
     "sys/stat.h": "struct stat { unsigned long st_dev, st_ino, before[4]; long st_size, after[11]; };\n"
     "int stat(const char *path, struct stat *found);\n",
     "unistd.h": "typedef long off_t, ssize_t;\nssize_t pwrite(int file, const void *bytes, __SIZE_TYPE__ length, off_t place);\n"
-    "int fdatasync(int file);\n",
+    "ssize_t pread(int file, void *bytes, __SIZE_TYPE__ length, off_t place);\nint fdatasync(int file);\nint fsync(int file);\n",
 }
 COMPILED = ["--target=x86_64-unknown-linux-gnu", "-std=c11", "-O2", "-fPIC", "-Wall", "-Wextra", "-Wconversion", "-Werror", "-nostdinc"]
 STATIC, SHARED, APPEND = OUT / "libelephant.a", OUT / "libelephant.so", OUT / "libelephant_file.so"
@@ -59,7 +63,7 @@ Cflags: -I${{includedir}}
 """
 BUILT_LIBRARY = building.Product(
     "library", CRATE, OUT / "library.stamp", {STATIC: 0o644, SHARED: 0o755, APPEND: 0o755}, "./elephant library",
-    (HEADER, CALLS, APPEND_HEADER, APPEND_SOURCE),
+    (HEADER, CALLS, APPEND_HEADER, APPEND_SOURCE, *FILE_PARTS[1:]),
 )
 
 
@@ -174,7 +178,7 @@ def installed(prefix: Path, folder: Path = OUT, libdir: str = "lib") -> dict[str
     return {
         "include/elephant.h": LaidFile(0o644, HEADER.read_bytes()),
         "include/elephant_file.h": LaidFile(0o644, FILE_HEADER.read_bytes()),
-        "share/elephant/elephant_file.c": LaidFile(0o644, FILE_SOURCE.read_bytes()),
+        **{f"share/elephant/{it.name}": LaidFile(0o644, it.read_bytes()) for it in (FILE_SOURCE, *FILE_PARTS)},
         f"{libdir}/{STATIC.name}": LaidFile(0o644, (folder / STATIC.name).read_bytes()),
         f"{libdir}/{SONAME}": LaidFile(0o644, (folder / SHARED.name).read_bytes()),
         f"{libdir}/{SHARED.name}": LaidLink(SONAME),

@@ -1,10 +1,13 @@
 /* A store in a file: include/elephant_file.h says what each call does. What bytes mean is decided in the library, which is proved; here
- * they are only carried to the disk and back. */
+ * they are only carried to the disk and back. Two headers beside this file have the calls of the system and the text of the space ahead. */
 #ifndef _DEFAULT_SOURCE
 #define _DEFAULT_SOURCE
 #endif
 
 #include <elephant_file.h>
+
+#include "elephant_file_ahead.h"
+#include "elephant_file_calls.h"
 
 #include <errno.h>
 #include <fcntl.h>
@@ -18,13 +21,10 @@
 #include <time.h>
 #include <unistd.h>
 
-/* In bytes: what a disk writes wholly or not at all, what a file system gives at once, the space ahead, and a piece that is copied. */
-enum { BLOCK = 512, PAGE = 4096, LEAST_AHEAD = 1 << 16, MOST_AHEAD = 1 << 20, PIECE = 1 << 16 };
+/* In bytes: what a file system gives at once, the space ahead, and a piece that is copied. */
+enum { PAGE = 4096, LEAST_AHEAD = 1 << 16, MOST_AHEAD = 1 << 20, PIECE = 1 << 16 };
 /* The length from which on a file is compacted by itself. */
 enum { LONG = 1 << 20 };
-/* The space ahead: the byte at each place modulo 16. */
-static const char FILLING[] = "not written yet ";
-enum { FILLED = sizeof FILLING - 1 };
 /* Where a journal has the length of its checkpoint, in eight bytes, the highest first, and where the checkpoint begins. */
 enum { LENGTH_AT = 17, CHECKPOINT_AT = 25 };
 /* The last bytes of a checkpoint: its length and its sum. Before them it has the limits. */
@@ -89,62 +89,7 @@ static int32_t damage_at(elephant_file *f, uint64_t place) {
     return ELEPHANT_FILE_DAMAGED;
 }
 
-/* ---- Calls of the system, until they are done ---- */
-
-static int open_file(const char *path, int flags) {
-    int file;
-    do file = open(path, flags | O_CLOEXEC, 0600);
-    while (file < 0 && errno == EINTR);
-    return file;
-}
-
-static int sync_data(int file) {
-    int failed, error;
-    /* A call that a signal interrupted has not failed to write anything. */
-    do failed = fdatasync(file);
-    while (failed && errno == EINTR);
-    if (!failed) return 0;
-    /* The system may go on showing what it couldn't write. The next opening is to read what the disk has. */
-    error = errno;
-    posix_fadvise(file, 0, 0, POSIX_FADV_DONTNEED);
-    errno = error;
-    return failed;
-}
-
-static int sync_all(int file) {
-    int failed;
-    do failed = fsync(file);
-    while (failed && errno == EINTR);
-    return failed;
-}
-
-static int write_all(int file, const unsigned char *bytes, uint64_t length, uint64_t place) {
-    while (length) {
-        ssize_t written = pwrite(file, bytes, length, (off_t)place);
-        if (written < 0 && errno == EINTR) continue;
-        if (written <= 0) {
-            if (!written) errno = ENOSPC;
-            return -1;
-        }
-        bytes += written;
-        length -= (uint64_t)written;
-        place += (uint64_t)written;
-    }
-    return 0;
-}
-
-/* Returns how many bytes were read: fewer at the end of the file. */
-static int64_t read_all(int file, unsigned char *bytes, uint64_t length) {
-    uint64_t place = 0;
-    while (place < length) {
-        ssize_t had = pread(file, bytes + place, length - place, (off_t)place);
-        if (had < 0 && errno == EINTR) continue;
-        if (had < 0) return -1;
-        if (!had) break;
-        place += (uint64_t)had;
-    }
-    return (int64_t)place;
-}
+/* ---- Steps of the system ---- */
 
 /* Frees the lock at once. To close the file doesn't, while a child of another thread that is about to run a program has it too. */
 static void let_go(int file) {
@@ -188,50 +133,6 @@ static int32_t want_ours(elephant_file *f) {
 }
 
 /* ---- The space ahead ---- */
-
-static unsigned char filling_at(uint64_t place) {
-    return (unsigned char)FILLING[place % FILLED];
-}
-
-static uint64_t block_of(uint64_t place) {
-    return place - place % BLOCK;
-}
-
-/* Where the filling begins that goes on to the end of these bytes. */
-static uint64_t filled_from(const unsigned char *bytes, uint64_t from, uint64_t end) {
-    while (end > from && bytes[end - 1] == filling_at(end - 1)) end--;
-    return end;
-}
-
-/* A block that a crash kept from being filled may have zeros. These follow filled ones: zeros in the place of a change are damage. */
-static bool is_blank(const unsigned char *bytes, uint64_t from, uint64_t end) {
-    if (filled_from(bytes, from, end) == from) return true;
-    while (end > from && !bytes[end - 1]) end--;
-    return end == from;
-}
-
-/* Where what was written ends: all blocks after it are blank. */
-static uint64_t written_end(const unsigned char *bytes, uint64_t from, uint64_t end) {
-    while (end > from) {
-        uint64_t block = block_of(end - 1) > from ? block_of(end - 1) : from;
-        if (!is_blank(bytes, block, end)) return filled_from(bytes, block, end);
-        end = block;
-    }
-    return from;
-}
-
-/* The first place from which on what was to be written isn't there: a part of a block that still has the filling, all of it, or the place
- * after which nothing was written. That a block ends with some bytes of the filling says nothing, since a change may have them. */
-static uint64_t first_gap(const unsigned char *bytes, uint64_t from, uint64_t end) {
-    const uint64_t written = written_end(bytes, from, end);
-    while (from < end) {
-        uint64_t next = block_of(from) + BLOCK < end ? block_of(from) + BLOCK : end;
-        uint64_t gap = filled_from(bytes, from, next);
-        if (gap == from || (gap < next && gap >= written)) return gap;
-        from = next;
-    }
-    return end;
-}
 
 static int fill(elephant_file *f, uint64_t from, uint64_t end) {
     while (from < end) {

@@ -7,10 +7,9 @@
 
 #include "elephant_file_append.h"
 
-#include <errno.h>
-#include <fcntl.h>
+#include "elephant_file_calls.h"
+
 #include <sys/stat.h>
-#include <unistd.h>
 
 /* Whether the path still names this file, nobody else changed its length, and so many bytes fit into its space ahead. */
 static int is_ordinary(const elephant_append *it, uint64_t length) {
@@ -19,39 +18,18 @@ static int is_ordinary(const elephant_append *it, uint64_t length) {
     return named.st_ino == it->inode && named.st_dev == it->device && (uint64_t)named.st_size == it->size;
 }
 
-static int write_all(int file, const unsigned char *bytes, uint64_t length, uint64_t place) {
-    while (length) {
-        const ssize_t written = pwrite(file, bytes, length, (off_t)place);
-        if (written < 0 && errno == EINTR) continue;
-        if (written <= 0) return written ? errno : ENOSPC;
-        bytes += written;
-        length -= (uint64_t)written;
-        place += (uint64_t)written;
-    }
-    return 0;
-}
-
 /* Writes the store's text after the changes that are there. */
 static int32_t write_text(const elephant *store, elephant_append *it, uint64_t length) {
     uint64_t copied = 0;
     for (uint64_t at = 0; at < length; at += copied) {
         const int32_t code = it->answer(store, at, it->piece, sizeof it->piece, &copied);
         if (code) return code;
-        it->error = write_all(it->file, it->piece, copied, it->length + at);
-        if (it->error) return 0;
+        if (write_all(it->file, it->piece, copied, it->length + at)) {
+            it->error = errno;
+            return 0;
+        }
     }
     return 0;
-}
-
-static int sync_data(int file) {
-    int failed, error;
-    do failed = fdatasync(file);
-    while (failed && errno == EINTR);
-    if (!failed) return 0;
-    /* The system may go on showing what it couldn't write. The next opening is to read what the disk has. */
-    error = errno;
-    posix_fadvise(file, 0, 0, POSIX_FADV_DONTNEED);
-    return error;
 }
 
 /* Writes the change and waits for the disk, if that is wanted. */
@@ -62,8 +40,10 @@ static int32_t put(const elephant *store, elephant_append *it, uint64_t length) 
     if (code || it->error) return code;
     if (it->syncs) {
         it->step = ELEPHANT_APPEND_SYNC;
-        it->error = sync_data(it->file);
-        if (it->error) return 0;
+        if (sync_data(it->file)) {
+            it->error = errno;
+            return 0;
+        }
     }
     it->length += length;
     return 0;
