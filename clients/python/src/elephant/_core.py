@@ -50,6 +50,7 @@ _SIZES = tuple(map(c_size_t.from_param, range(256)))
 _ZERO = c_uint64.from_param(0)
 # Makes bytes that nobody has yet, for a call of the library to fill.
 _unfilled = ctypes.PYFUNCTYPE(ctypes.py_object, c_void_p, c_ssize_t)(("PyBytes_FromStringAndSize", ctypes.pythonapi))
+_counts_in = operator.attrgetter(*Counts._fields)
 # The bytes of the length and the sum of a checkpoint.
 _AFTER_LIMITS = 12
 
@@ -381,4 +382,4 @@ class Core:
     def counts(self) -> Counts:
         """Returns what the limits count."""
         row = self.row(self.library.elephant_counts, CountsRow, "")
-        return Counts(*(getattr(row, name) for name in Counts._fields))
+        return Counts._make(_counts_in(row))

@@ -3,6 +3,7 @@
 from __future__ import annotations
 
 import logging
+import operator
 import os
 from collections.abc import Callable
 from functools import partial
@@ -19,6 +20,8 @@ from ._turns import Clock, Fsync, Opening
 
 # In tenths of a limit: the count from which on a renewal is worth a try, and the part that the renewed store must be below.
 _NEARLY_ALL, _HALF, _ALL = 9, 5, 10
+# More than any count.
+_NEVER = 1 << 64
 _LOG = logging.getLogger("elephant")
 _LOG.addHandler(logging.NullHandler())
 
@@ -32,20 +35,21 @@ class _RenewalTime:
 
     def __init__(self, limits: Limits) -> None:
         # A renewal would drop the history, so it isn't for the limit of its events.
-        self._most = {name: limit for name, limit in limits._asdict().items() if name != "events" and limit}
-        self._from = {name: -(-limit * _NEARLY_ALL // _ALL) for name, limit in self._most.items()}
-        self._nearly = dict(self._from)
+        self._most = limits._replace(events=0)
+        self._nearly = Counts._make(-(-limit * _NEARLY_ALL // _ALL) if limit else _NEVER for limit in self._most)
+        self._from = list(self._nearly)
         self._waited, self._wait = 0, 0
         self.look_from = 0
         """The length of the file from which on a count may be near at its limit: what is done takes more bytes than it makes of a kind."""
 
     def has_come(self, length: int, counts: Callable[[], Counts]) -> bool:
+        # Of a store with the largest limits each sixth commit comes this far or further.
         if length < self.look_from:
             return False
-        made = counts()._asdict()
-        if any(made[name] >= count for name, count in self._from.items()):
+        made = counts()
+        if any(map(operator.ge, made, self._from)):
             return True
-        least = min((count - made[name] for name, count in self._nearly.items()), default=0)
+        least = min(map(operator.sub, self._nearly, made))
         self.look_from = length + max(least, 0)
         if not self._wait or least > 0:
             return False
@@ -58,18 +62,14 @@ class _RenewalTime:
 
     def is_worth(self, counts: Counts, renewed: Counts) -> bool:
         """Whether each count that is nearly at its limit is below half of it in the renewed store."""
-        made, kept = counts._asdict(), renewed._asdict()
-        return all(made[name] < self._nearly[name] or kept[name] * _ALL < limit * _HALF for name, limit in self._most.items())
+        rows = zip(counts, self._nearly, renewed, self._most)
+        return all(made < nearly or kept * _ALL < most * _HALF for made, nearly, kept, most in rows)
 
     def put_off(self, counts: Counts) -> None:
         """Notes that a try has renewed nothing."""
-        for name, made in counts._asdict().items():
-            if made >= self._from.get(name, made + 1):
-                most = self._most[name]
-                if made < most:
-                    self._from[name] = most - (most - made) // 2
-                else:
-                    del self._from[name]
+        for at, (made, most) in enumerate(zip(counts, self._most)):
+            if made >= self._from[at]:
+                self._from[at] = most - (most - made) // 2 if made < most else _NEVER
         self._waited, self._wait = 0, 2 * self._wait or 1
 
 
