@@ -7,9 +7,9 @@ import tempfile
 import time
 import unittest
 from pathlib import Path
-from unittest import mock
 
 import test_browse as lines
+from alone import Patched
 from elephant import FileStore, JournalError
 from elephant.mount.store import MountStore
 
@@ -47,7 +47,7 @@ class Changes(InFile):
         self.assertNotEqual(Path(self.journal).read_bytes(), before)
 
     def test_what_the_disk_refuses_is_not_done(self) -> None:
-        with mock.patch("os.pwrite", side_effect=OSError(28, os.strerror(28))), self.assertRaises(ChangeRefused):
+        with Patched("os.pwrite", side_effect=OSError(28, os.strerror(28))), self.assertRaises(ChangeRefused):
             self.page.source.run("undelete", "/plan")
         self.assertEqual([it.name for it in self.store.list("/")], ["letter", "work"])
         self.page.source.run("undelete", "/plan")

@@ -12,6 +12,7 @@ from pathlib import Path
 from typing import Optional
 from unittest import mock
 
+from alone import Patched
 from anew import changes_since
 from elephant import ElephantError, Exists, FileStore, Forgotten, JournalDamaged, JournalError, JournalLocked, NoMemory, Store
 from elephant._journal import HEADER, Journal
@@ -174,7 +175,7 @@ class Keeping(Case):
             return write(file, data, place)
 
         end = self.store.journal_size + 300_000 + (2 << 20)
-        with mock.patch("os.pwrite", note):
+        with Patched("os.pwrite", note):
             self.store.save("/a", bytes(300_000))
         self.assertLess(max(ends), end)
         with mock.patch("elephant._disk.allocate", return_value=errno.ENOSPC) as asked:
@@ -184,7 +185,7 @@ class Keeping(Case):
     def test_what_could_not_be_written_is_written_later(self) -> None:
         self.store.make(b"/a")
         full = OSError(errno.ENOSPC, os.strerror(errno.ENOSPC))
-        with mock.patch("os.pwrite", side_effect=full):
+        with Patched("os.pwrite", side_effect=full):
             for path in (b"/b", b"/c"):
                 with self.assertRaises(JournalError):
                     self.store.make(path, remark=b"of " + path)
@@ -237,10 +238,10 @@ class Keeping(Case):
     def test_what_was_interrupted_is_in_a_new_file_with_its_remarks(self) -> None:
         self.store.make(b"/a")
         full = OSError(errno.ENOSPC, os.strerror(errno.ENOSPC))
-        with mock.patch("os.pwrite", side_effect=full), self.assertRaises(JournalError):
+        with Patched("os.pwrite", side_effect=full), self.assertRaises(JournalError):
             self.store.make(b"/b", remark=b"of /b")
         before = self.path.stat()
-        with mock.patch("os.pwrite", side_effect=MemoryError):
+        with Patched("os.pwrite", side_effect=MemoryError):
             self.assertFalse(self.store.retry())
         self.assertTrue(self.store.retry())
         self.assertFalse(os.path.samestat(self.path.stat(), before))

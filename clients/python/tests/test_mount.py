@@ -14,6 +14,7 @@ from typing import Callable, Optional
 from unittest import mock
 
 import elephant
+from alone import Patched
 from anew import make_anew
 from clocks import clock_at
 from elephant import FileStore, Full, JournalLocked, Limits
@@ -354,7 +355,7 @@ class Limits_(Case):
     def test_what_the_journal_lacks_is_written_when_that_works_again(self) -> None:
         it = self.mount()
         it.save(b"f", b"one")
-        with mock.patch("os.pwrite", side_effect=OSError(errno.EIO, "a fault")), self.assertRaises(elephant.JournalError):
+        with Patched("os.pwrite", side_effect=OSError(errno.EIO, "a fault")), self.assertRaises(elephant.JournalError):
             it.make(b"g")
         self.assertTrue(it.store.stopped)
         self.assertEqual(it.read(b"f"), b"one")

@@ -16,6 +16,7 @@ from typing import Any, Union, cast
 from unittest import mock
 
 import elephant
+from alone import Patched
 from anew import make_anew
 from elephant import Counts as Made, Full, JournalError, JournalLost, KeepOne, KeepSafe, Limits, Moment, NoMemory
 from elephant._errors import LIMIT_NAMES
@@ -93,7 +94,7 @@ print(has_memory(50 << 20), has_memory(200 << 20), has_memory(50 << 20))
         for where in ("elephant._core.Core.text_of", "os.pwrite"):
             it = self.mount()
             it.save(b"f", b"one")
-            with mock.patch(where, side_effect=MemoryError), self.assertRaises(JournalError) as caught:
+            with Patched(where, side_effect=MemoryError), self.assertRaises(JournalError) as caught:
                 it.make(b"g")
             self.assertEqual((bool(it.store.stopped), it.read(b"f"), it.store.is_lost), (True, b"one", False), where)
             self.assertTrue(caught.exception.__cause__)

@@ -10,6 +10,7 @@ from typing import Any, Union
 from unittest import mock
 
 import elephant
+from alone import Patched
 from anew import changes_since, make_anew
 from clocks import clock_at
 from elephant.keeping import NoSpace
@@ -45,7 +46,7 @@ class Journals(Case):
         it = self.mount()
         it.save(b"f", b"one")
         write, cut = os.pwrite, os.ftruncate
-        half = mock.patch("os.pwrite", lambda file, data, place: write(file, data[:9], place) if len(data) > 9 else fails(errno.EIO)())
+        half = Patched("os.pwrite", lambda file, data, place: write(file, data[:9], place) if len(data) > 9 else fails(errno.EIO)())
         with half, mock.patch("os.ftruncate", fails(errno.EIO)), self.assertRaises(elephant.JournalError):
             it.make(b"g")
         with mock.patch("os.ftruncate", fails(errno.EIO)):

@@ -33,6 +33,7 @@ from elephant.mount.names import spelled
 from elephant.mount.operations import Operations
 from elephant.mount.tidying import MOST_LOOKS, Tidying
 from elephant.mount.tree import Directory, File
+from alone import Patched
 from clocks import FalseClocks
 from test_mount import FILE, FOLDER, Case, Mounted
 from test_mount_names import make_raw
@@ -389,7 +390,7 @@ class Keepers(Parts):
         it = self.mount()
         node = it.open(it.make(b"f"))
         it.contents.write(node, 0, b"one")
-        broken = mock.patch("os.pwrite", side_effect=OSError(errno.ENOSPC, os.strerror(errno.ENOSPC)))
+        broken = Patched("os.pwrite", side_effect=OSError(errno.ENOSPC, os.strerror(errno.ENOSPC)))
         with broken, self.assertRaises(JournalError) as caught:
             it.contents.closed(node, True)
         self.assertEqual(self.operations.errno_of(caught.exception), errno.ENOSPC)
@@ -494,7 +495,7 @@ class Faults(Parts):
         node = it.save(b"f", b"one", folder)
         it.save(b"g", b"two", folder)
         it.contents.forget_read()
-        broken = mock.patch("os.pwrite", side_effect=OSError(errno.EIO, os.strerror(errno.EIO)))
+        broken = Patched("os.pwrite", side_effect=OSError(errno.EIO, os.strerror(errno.EIO)))
         with broken, self.assertRaises(pyfuse3.FUSEError) as caught:
             self.operations.rename(it.top.ino, b"d", it.top.ino, b"e", 0, None).send(None)
         self.assertEqual((caught.exception.errno, it.contents.whole(node), folder.path), (errno.EIO, b"one", b"/e"))
@@ -532,7 +533,7 @@ class Asking(Parts):
             text, changes = lines.answer("undo /f")
         self.assertEqual((text[:21], changes), ("ok version 5: what it", [(it.top, b"f")]))
         self.assertEqual((it.read(b"f"), list(it.tree.refresh())), (b"one", []))
-        with mock.patch("os.pwrite", side_effect=OSError(errno.EIO, os.strerror(errno.EIO))):
+        with Patched("os.pwrite", side_effect=OSError(errno.EIO, os.strerror(errno.EIO))):
             text, changes = lines.answer("mkdir /d")
         self.assertEqual((text[:16], changes, b"d" in it.top.children), ("elephant-mount: ", [(it.top, b"d")], True))
 
