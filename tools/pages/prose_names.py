@@ -97,7 +97,7 @@ class Tree:
         if name.startswith("crates/"):
             self.of_crates.setdefault(name.split("/")[1], set()).update(words)
         self.options.update(OPTION.findall(text))
-        self.quoted.update(re.findall(r'"([a-z][a-z.-]*)"', text))
+        self.quoted.update(re.findall(r'"([a-z][a-z_.-]*)"', text))
 
     def has_path(self, path: str, folder: str, crates: Collection[str] = ()) -> bool:
         """Whether a path exists: in one of these crates if it begins as a path in a crate does, else from the top, from the page's folder,
