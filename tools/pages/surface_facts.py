@@ -16,6 +16,7 @@ STEP, CHANGE, ASKS = (f"crates/ele_model/specs/{it}.antt" for it in ("Step", "Ch
 REFUSAL, LIMITS = "crates/ele_model/src/refusal.rt", "crates/ele_model/src/limits.rt"
 ERRORS, HELP_PAGES, HELP_SCRIPT = (f"crates/ele_help/src/{it}.rt" for it in ("errors", "pages", "script"))
 PARAGRAPHS = "crates/ele_help/src/paragraphs.rt"
+JOURNALED = "crates/ele_journal/src/event.rt"
 LINE_FAULT, SHELL_FAULT = "crates/ele_printer/src/fault.rt", "crates/ele_run_options/src/fault.rt"
 STORM_FAULT = "crates/ele_storm_plan/src/fault.rt"
 CODES, TAGS, CALLS, KINDS, OF_LIMITS = (f"crates/ele_c_values/src/{it}.rt" for it in ("codes", "asks", "call", "kind", "limits"))
@@ -44,7 +45,7 @@ CONSTANTS = {
 }
 SOURCES = [
     COMMAND, PARTS, STEP, CHANGE, ASKS, REFUSAL, LIMITS, ERRORS, HELP_PAGES, HELP_SCRIPT, LINE_FAULT, SHELL_FAULT, STORM_FAULT, CODES,
-    TAGS, CALLS, KINDS, OF_LIMITS, KEPT, NAMES, GROUPS, STATS, FATES, COUNTS, NUMBER_RULES, PARAGRAPHS,
+    TAGS, CALLS, KINDS, OF_LIMITS, KEPT, NAMES, GROUPS, STATS, FATES, COUNTS, NUMBER_RULES, PARAGRAPHS, JOURNALED,
     *sorted({path for path, _ in CONSTANTS.values()} - {LIMITS}),
 ]
 EXPORTS = "crates/ele_c/src"
@@ -52,6 +53,13 @@ TYPES = {
     "&mut Elephant": "elephant *", "*mut Elephant": "elephant *", "&mut *mut Elephant": "elephant **", "u64": "uint64_t", "u32": "uint32_t",
     "&mut u64": "uint64_t *", "&[u8]": "const void *", "&mut [u8]": "void *", "&mut Numbers": "inner_row *",
     "&LimitFields": "const elephant_limits *", "&mut u32": "uint32_t *",
+}
+
+
+# What a journal has of an event, by the function that adds it.
+LETTERS = {
+    "on_path": "p", "path": "p", "numbered": "n", "number": "n", "moment": "n", "maybe": "m", "named": "s", "string": "b", "policy": "y",
+    "tag": "t",
 }
 
 
@@ -253,6 +261,23 @@ def paragraphs_in(commands: str, paragraphs: str) -> list[tuple[str, str]]:
         raise LookupError(f"{len(rows)} commands and {len(told)} paragraphs of help")
     texts = [f"{what}\n{example}".replace("\\n", "\n").replace('\\"', '"') for what, example in told]
     return [(f"{first} {second}".strip(), text) for (first, second), text in zip(rows, texts)]
+
+
+def journaled(tree: Tree) -> list[tuple[str, str]]:
+    """Returns the words of each event that a journal has, by the number of its kind, and a letter for each of its values: a path, a number,
+    a moment or none, a policy, a tag, bytes, and the content of a file, which are bytes after others."""
+    rows = re.findall(r'Command::(\w+),\s*"(\w*)",\s*"(\w*)"', block(tree[COMMAND], "pub static ROWS"))
+    spelled = {name: f"{first} {second}".strip() for name, first, second in rows}
+    commands = dict(re.findall(r"^parts_of \(?event\.(\w+).* = \(command\.(\w+),", tree[PARTS], re.M))
+    arms = match_in(r"(?ms)^    fn put\(&self.*?^        match self \{\n(.*?)^            _ =>", tree[JOURNALED])[1]
+    found = {}
+    for event, arm in re.findall(r"(?ms)^            Event::(\w+)(?:\([^)]*\))? => (.*?)(?=^            Event::|\Z)", arms):
+        letters = "".join(LETTERS[it] for it in re.findall(r"\bput_(\w+)", arm))
+        number = int(match_in(r"(?:out, |push\()(\d+)", arm)[1])
+        found[number] = spelled[commands[event]], re.sub("(?<=.)b$", "c", letters).replace("b", "s")
+    if sorted(found) != list(range(len(found))):
+        raise LookupError(f"{JOURNALED} has the kinds {sorted(found)}")
+    return [found[number] for number in range(len(found))]
 
 
 # Numbers of errors.

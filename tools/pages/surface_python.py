@@ -7,16 +7,17 @@ from collections.abc import Iterator
 from gate.building import match_in
 from pages import surface_words as words
 from pages.surface_docs import letters_of
-from pages.surface_facts import COMMAND, PARAGRAPHS, Call, Code, Command, Facts, paragraphs_in
+from pages.surface_facts import COMMAND, PARAGRAPHS, Call, Code, Command, Facts, journaled, paragraphs_in
 from pages.surface_header import CODES_FROM, HEADER, Declared, declared
 from pages.surface_regions import HEAD, Tree, place_of, with_region, wrapped
 
 PACKAGE = "clients/python/src/elephant"
-LIBRARY, ERRORS, NAMES = (f"{PACKAGE}/{it}.py" for it in ("_library", "_errors", "__init__"))
+LIBRARY, ERRORS, NAMES, EVENTS = (f"{PACKAGE}/{it}.py" for it in ("_library", "_errors", "__init__", "_events"))
 REPLAY, CONTROL, COUNTS = (place_of(PACKAGE, f"{HEAD}: {it}, from ") for it in ("the questions", "the lines", "the counts"))
 LANGUAGE = place_of(PACKAGE, f"{HEAD}: the commands, from ")
 ANSWERS = place_of(PACKAGE, "class Limits(NamedTuple):")
 FROM_COMMANDS = "ele_commands/src/command.rt and ele_model/specs/NothingChanges.antt"
+FROM_JOURNAL = "ele_journal/src/event.rt and ele_commands/src/command.rt"
 FROM_HELP = "ele_commands/src/command.rt and ele_help/src/paragraphs.rt"
 # What an exception is by the kind of its number.
 BASES = {"stop": ["Stop"], "refusal": ["Refused"], "line": ["Refused", "ValueError"], "handle": ["ElephantError", "ValueError"]}
@@ -115,6 +116,14 @@ def numbers_by_hand(tree: Tree, facts: Facts) -> Iterator[str]:
             yield f"{ERRORS}: {name} has the number {found.get(name)}, and the sources have {wanted.get(name)}"
 
 
+# The events of a journal.
+
+
+def events(tree: Tree, _: Facts, __: Declared) -> str:
+    listed = wrapped(f"(b{quoted(word)}, {quoted(letters)})" for word, letters in journaled(tree))
+    return with_region(EVENTS, tree[EVENTS], "the kinds", FROM_JOURNAL, f"KINDS = (\n{listed})\n")
+
+
 # Lists of commands.
 
 
@@ -199,7 +208,7 @@ def _fields_of(name: str, text: str) -> str:
 
 PRINTED = {
     LIBRARY: library, ERRORS: errors, NAMES: names, REPLAY: replay, CONTROL: control, COUNTS: counts, ANSWERS: answers,
-    LANGUAGE: language,
+    LANGUAGE: language, EVENTS: events,
 }
 
 

@@ -20,6 +20,7 @@ CHECKPOINT_AT, _HEAD = 25, 9
 _FIRST_PART, _MORE = 1 << 20, 4
 # Each event by the number of its kind: its word in the script language, and its values. p: a path, as it is spelled. n: a number.
 # c: a content, of which only the length is told. s: bytes. y: a policy. t: a tag. m: a moment or none.
+# Printed by tools/pages/surface --write: the kinds, from ele_journal/src/event.rt and ele_commands/src/command.rt.
 KINDS = (
     (b"mkdir", "p"), (b"rmdir", "p"), (b"create", "p"), (b"unlink", "p"), (b"undelete", "p"), (b"open write", "p"), (b"link", "pp"),
     (b"rename", "pp"), (b"tick", "n"), (b"close", "n"), (b"abandon", "n"), (b"clock", "n"), (b"truncate", "nn"), (b"write", "nnc"),
@@ -27,6 +28,7 @@ KINDS = (
     (b"group make", "s"), (b"group drop", "s"), (b"group add", "sp"), (b"group remove", "sp"), (b"mark", "snm"), (b"unmark", "sn"),
     (b"clean", ""), (b"note", "s"),
 )
+# End of the kinds.
 
 
 class Event(NamedTuple):
