@@ -14,7 +14,7 @@
 /* Whether the path still names this file, nobody else changed its length, and so many bytes fit into its space ahead. */
 static int is_ordinary(const elephant_append *it, uint64_t length) {
     struct stat named;
-    if (length > it->size - it->length || stat(it->path, &named)) return 0;
+    if (it->length + length > it->size || stat(it->path, &named)) return 0;
     return named.st_ino == it->inode && named.st_dev == it->device && (uint64_t)named.st_size == it->size;
 }
 
