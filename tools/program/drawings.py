@@ -155,9 +155,14 @@ def words(x: int, y: int, size: int, anchor: str, said: str) -> str:
     return f"<text x='{x}' y='{y}' font-size='{size}' text-anchor='{anchor}'>{said}</text>\n"
 
 
+def xml(text: str) -> str:
+    """Returns a text as XML has it."""
+    return "".join(REFERENCES.get(it, " " if it < " " or it == "\x7f" else it) for it in text)
+
+
 def head(page: Page, title: str) -> str:
     """Returns what stands above every drawing."""
-    said = "".join(REFERENCES.get(it, " " if it < " " or it == "\x7f" else it) for it in title) or "Retention forecast"
+    said = xml(title) or "Retention forecast"
     return HEAD.format(height=page.foot + 24 + 12 * page.labels, title=said)
 
 
@@ -362,3 +367,41 @@ def drawing(title: str, plans: Sequence[Plan], asked: Sequence[int], sizes: Sequ
     """Returns the drawing of some policies."""
     is_single = len(plans) == 1 and len(plans[0].versions) <= 200 and sizes is None
     return rows(title, plans[0], asked) if is_single else summary(title, plans, asked, sizes)
+
+
+class Group(NamedTuple):
+    """Versions that are kept by both, only here or only there: who keeps them, their numbers and, if versions have sizes, their bytes."""
+
+    keeper: str
+    numbers: Sequence[int]
+    size: int | None
+
+    def said(self) -> str:
+        amount = "" if self.size is None else f" with {self.size} bytes"
+        return f"kept {self.keeper}: {len(self.numbers)}{amount}"
+
+
+def comparison(title: str, word: str, closings: Sequence[int], at: int, groups: Sequence[Group], unknown: int) -> str:
+    """Returns the drawing of who keeps which versions: a strip of all, and one of each group."""
+    page = Page(closings[0] if closings else 0, max([at, *closings[-1:]]), 66, 202, 0, 1)
+    columns = [(page.x(it) - 150) // 4 for it in closings]
+
+    def bars(top: int, counts: Counter[int], stroke: str) -> str:
+        most = max(counts.values(), default=1)
+        heights = ((152 + 4 * column, 1 + counts[column] * 15 // most) for column in sorted(counts))
+        return "".join(line((x, top + 16), (x, top + 16 - height), stroke) for x, height in heights)
+
+    by, what = xml(word), "bars: how many versions closed then; labels there that no version has:"
+    found = [
+        head(page, title),
+        f"<text x='20' y='37' font-size='11'>{len(closings)} versions, kept here by {by}, and there by another tool</text>\n",
+        f"<text x='20' y='53' font-size='10'>{what} {unknown}</text>\n",
+        foot(page), frame(66, "all versions, by closing"), bars(66, Counter(columns), BAR),
+    ]
+    for top, stroke, group in zip((90, 126, 162), (CURVES[0], CURVES[2], CURVES[1]), groups):
+        found += [
+            line((104, top + 24), (140, top + 24), stroke), rect(150, top + 16, 746, 16, PAPER),
+            f"<text x='150' y='{top + 10}' font-size='10'>{group.said()}</text>\n",
+            bars(top + 16, Counter(columns[it - 1] for it in group.numbers), stroke),
+        ]
+    return "".join([*found, asked_lines(page, [at]), labels(page, [at]), "</svg>\n"])

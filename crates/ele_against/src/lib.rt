@@ -12,4 +12,4 @@ mod table;
 pub use compared::{Compared, compare};
 pub use csv::{put_compared_csv, put_compared_heading};
 pub use json::put_compared_json;
-pub use table::{put_compared, put_unknown};
+pub use table::{put_bytes, put_compared, put_unknown};

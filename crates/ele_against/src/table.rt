@@ -68,8 +68,8 @@ fn put_end<W: Write>(details: &Details, numbers: &[VersionNo], printer: &mut Pri
     put_numbers(numbers, printer);
 }
 
-// Puts the bytes of versions, if versions have sizes.
-fn put_bytes<W: Write>(details: &Details, numbers: &[VersionNo], printer: &mut Printer<'_, W>)
+/// Puts the bytes of the versions with these numbers, if versions have sizes.
+pub fn put_bytes<W: Write>(details: &Details, numbers: &[VersionNo], printer: &mut Printer<'_, W>)
     ensures { Prints W.contents printer.old printer.new (bytes_part details.now numbers.now) }
 {
     if details.columns.sizes {

@@ -6,7 +6,7 @@ use Rattle.ele_forecast_text.specs.declared.plan.AskedPolicy.{AskedPolicy}
 use Rattle.ele_outlook.specs.declared.options.Form.{Form}
 use Rattle.ele_outlook.specs.Against.{compares}
 use Rattle.ele_outlook.specs.Suggested.{suggests}
-use Rattle.ele_outlook.specs.declared.options.Form.TheVariants.{Table, Drawing, BytesDrawing, Due, Kept, Json, Csv, Every, EveryCsv, Against, Suggest}
+use Rattle.ele_outlook.specs.declared.options.Form.TheVariants.{Table, Drawing, BytesDrawing, Due, Kept, Json, Csv, Every, EveryCsv, AgainstDrawing, Against, Suggest}
 use Rattle.ele_outlook.specs.declared.options.ForecastOptions.{ForecastOptions}
 use Rattle.ele_outlook.specs.declared.options.Layout.{Layout}
 use Rattle.ele_outlook.specs.declared.options.Layout.TheVariants as laid
@@ -76,10 +76,16 @@ in_layout answer Json = Some (answer laid.Json)
 in_layout answer Csv = Some (answer laid.Csv)
 in_layout answer form = None
 
+-- a comparison in the layout of a form, if it has one, or as a drawing
+abbrev pub compared_as : Form → Option Form
+compared_as Drawing = Some AgainstDrawing
+compared_as BytesDrawing = Some AgainstDrawing
+compared_as form = in_layout Against form
+
 -- the form, or an answer in its layout: a comparison or a suggestion, and not both
 abbrev pub answer_of : Bool → Bool → Form → Option Form
 answer_of false false form = Some form
-answer_of true false form = in_layout Against form
+answer_of true false form = compared_as form
 answer_of false true form = in_layout Suggest form
 answer_of true true form = None
 
@@ -89,15 +95,20 @@ pub record IsForm (rows : List Row) (form : Form) : Type 0 where
   pub plain_is : IsPlainForm rows plain
   pub answered : answer_of (is_given (codes "against") rows) (is_on (codes "suggest") rows) plain ≡ Some form
 
--- a list is of one policy at one moment, and a table over time has moments of its own; in CSV only rules are about moments. A comparison is of
--- one policy or one rule at one moment, and a suggestion of none, at one moment at most
+-- a comparison is of one policy or one rule at one moment
+abbrev pub is_compared : ℕ → ℕ → ℕ → Bool
+is_compared policies moments rules = (moments == 1) && (((policies == 1) && (rules == 0)) || ((policies == 0) && (rules == 1)))
+
+-- a list is of one policy at one moment, and a table over time has moments of its own; in CSV only rules are about moments. A suggestion
+-- is of none, at one moment at most
 abbrev pub suits : Form → ℕ → ℕ → ℕ → Bool
 suits Due policies moments rules = (policies == 1) && (moments == 1)
 suits Kept policies moments rules = (policies == 1) && (moments == 1)
 suits (Every step) policies moments rules = moments == 0
 suits (EveryCsv step) policies moments rules = moments == 0
 suits Csv policies moments rules = (moments == 0) || nat_lt 0 rules
-suits (Against layout) policies moments rules = (moments == 1) && (((policies == 1) && (rules == 0)) || ((policies == 0) && (rules == 1)))
+suits AgainstDrawing policies moments rules = is_compared policies moments rules
+suits (Against layout) policies moments rules = is_compared policies moments rules
 suits (Suggest layout) policies moments rules = nat_lt moments 2 && ((policies == 0) && (rules == 0))
 suits form policies moments rules = true
 
@@ -113,7 +124,7 @@ abbrev pub SpellsAt : Option ℕ → Text → ℕ → Type 0
 SpellsAt None word m = SpellsTime word m
 SpellsAt (Some now) word m = SpellsWhen now word m
 
--- drawings, a table over time and a suggestion have no place for labels
+-- drawings of policies, a table over time and a suggestion have no place for labels
 abbrev pub takes_labels : Form → Bool
 takes_labels Drawing = false
 takes_labels BytesDrawing = false
@@ -133,6 +144,7 @@ takes_sizes form = true
 abbrev pub takes_title : Form → Bool
 takes_title Drawing = true
 takes_title BytesDrawing = true
+takes_title AgainstDrawing = true
 takes_title form = false
 
 -- rules of other tools are for tables, JSON and CSV, and for a comparison
@@ -146,6 +158,7 @@ takes_rules Due = false
 takes_rules Kept = false
 takes_rules (Every step) = false
 takes_rules (EveryCsv step) = false
+takes_rules AgainstDrawing = true
 takes_rules (Against layout) = true
 takes_rules (Suggest layout) = false
 

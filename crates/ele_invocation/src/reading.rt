@@ -126,8 +126,8 @@ const TWO_FORMS: &str =
     with --csv\n\n\
     For more information, try 'elephant forecast --help'.\n";
 
-const TWO_ANSWERS: &str = "error: --against and --suggest exclude each other, and --every, --list \
-    and --svg\n\n\
+const TWO_ANSWERS: &str = "error: --against and --suggest exclude each other, and --every and \
+    --list; --suggest excludes --svg\n\n\
     For more information, try 'elephant forecast --help'.\n";
 
 const BAD_AGAINST: &str = "error: --against takes one --at, and one --policy or one --rule\n\n\
@@ -206,6 +206,9 @@ fn answer_of(against: bool, suggest: bool, form: Form) -> Option<Form>
         Form::Table => Layout::Table,
         Form::Json => Layout::Json,
         Form::Csv => Layout::Csv,
+        Form::Drawing | Form::BytesDrawing if against && !suggest => {
+            return Some(Form::AgainstDrawing);
+        }
         _ if against || suggest => return None,
         _ => return Some(form),
     };
@@ -314,7 +317,7 @@ fn check_counts(form: Form, policies: usize, moments: usize, rules: usize) -> Re
         }
         Form::Every(_) | Form::EveryCsv(_) if moments > 0 => Err(Unread::Because(BAD_EVERY)),
         Form::Csv if moments > 0 && rules == 0 => Err(Unread::Because(BAD_CSV)),
-        Form::Against(_) if moments != 1 || !is_one(policies, rules) => {
+        Form::AgainstDrawing | Form::Against(_) if moments != 1 || !is_one(policies, rules) => {
             Err(Unread::Because(BAD_AGAINST))
         }
         Form::Suggest(_) if policies > 0 || rules > 0 || moments > 1 => {
@@ -379,7 +382,10 @@ fn takes_sizes(form: Form) -> bool
 fn takes_title(form: Form) -> bool
     ensures { result ≡ takes_title form }
 {
-    matches!(form, Form::Drawing | Form::BytesDrawing)
+    matches!(
+        form,
+        Form::Drawing | Form::BytesDrawing | Form::AgainstDrawing
+    )
 }
 
 // Refuses what the form doesn't take, and a file.
@@ -409,7 +415,9 @@ fn check_compared(form: Form, labels: bool) -> Result<(), Unread>
     ensures { IsOk result ↔ ((not (compares form) || labels) ≡ true) }
 {
     match form {
-        Form::Against(_) if !labels => Err(Unread::Because(NO_COMMON_LABELS)),
+        Form::AgainstDrawing | Form::Against(_) if !labels => Err(Unread::Because(
+            NO_COMMON_LABELS,
+        )),
         _ => Ok(()),
     }
 }
@@ -441,7 +449,7 @@ fn check_rules(form: Form, rules: usize) -> Result<(), Unread>
     ensures { IsOk result ↔ ((takes_rules form || (rules == 0)) ≡ true) }
 {
     match form {
-        Form::Table | Form::Json | Form::Csv | Form::Against(_) => Ok(()),
+        Form::Table | Form::Json | Form::Csv | Form::AgainstDrawing | Form::Against(_) => Ok(()),
         _ if rules == 0 => Ok(()),
         _ => Err(Unread::Because(BAD_FORM)),
     }

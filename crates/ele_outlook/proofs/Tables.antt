@@ -22,7 +22,7 @@ use Rattle.ele_forecast_forms.specs.Csv.{csv_text}
 use Rattle.ele_forecast_forms.specs.declared.counts.Counts.{Counts}
 use Rattle.ele_space.specs.Amounts.{AreAmountsAt}
 use Rattle.ele_outlook.specs.declared.options.Form.{Form}
-use Rattle.ele_outlook.specs.declared.options.Form.TheVariants.{Table, Drawing, BytesDrawing, Due, Kept, Json, Csv, Every, EveryCsv, Against, Suggest}
+use Rattle.ele_outlook.specs.declared.options.Form.TheVariants.{Table, Drawing, BytesDrawing, Due, Kept, Json, Csv, Every, EveryCsv, AgainstDrawing, Against, Suggest}
 use Rattle.ele_outlook.specs.Reading.{IsFoundIn, IsOfForm, MayLack}
 use Rattle.ele_outlook.specs.declared.input.ReadLines.{ReadLines}
 use Rattle.ele_outlook.specs.declared.found.Found.{Found}
@@ -94,6 +94,7 @@ shown_some (Every step) true plans (row ∷ rows) some = inl (λ none. absurd cc
 shown_some (Every step) true plans [] some = absurd (some refl)
 shown_some (EveryCsv step) sizes plans [] some = absurd (some refl)
 shown_some (EveryCsv step) sizes plans (row ∷ rows) some = inl (λ none. absurd cc)
+shown_some AgainstDrawing sizes plans rows some = absurd (some refl)
 shown_some (Against layout) sizes plans rows some = absurd (some refl)
 shown_some (Suggest layout) sizes plans rows some = absurd (some refl)
 

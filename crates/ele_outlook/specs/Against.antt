@@ -12,15 +12,17 @@ use Rattle.ele_forecast_text.specs.declared.label.Label.{Label}
 use Rattle.ele_forecast_text.specs.declared.plan.Plan.{Plan}
 use Rattle.ele_forecast_text.specs.declared.staying.Staying.{Staying}
 use Rattle.ele_rule_forecast.specs.declared.judged.Judged.{Judged}
+use Rattle.ele_svg.specs.ComparedDrawing.{compared_drawing}
 use Rattle.ele_outlook.specs.Input.{lines_of}
 use Rattle.ele_outlook.specs.Parts.{stayings_of, texts_of}
 use Rattle.ele_outlook.specs.declared.options.Form.{Form}
-use Rattle.ele_outlook.specs.declared.options.Form.TheVariants.{Against}
+use Rattle.ele_outlook.specs.declared.options.Form.TheVariants.{Against, AgainstDrawing}
 use Rattle.ele_outlook.specs.declared.options.Layout.{Layout}
 use Rattle.ele_outlook.specs.declared.options.Layout.TheVariants.{Table, Json, Csv}
 
 -- which form compares what is kept
 abbrev pub compares : Form → Bool
+compares AgainstDrawing = true
 compares (Against layout) = true
 compares form = false
 
@@ -59,3 +61,9 @@ against_text layout details word None = []
 against_text Table details word (Some compared) = compared_text details word compared ++ unknown_text compared.unknown.items
 against_text Json details word (Some compared) = compared_json details compared ++ codes "\n"
 against_text Csv details word (Some compared) = heading_text details ++ compared_csv details word compared
+
+-- the same as a drawing with this title
+abbrev pub against_drawing : List ℕ → Details → List Plan → List Judged → Option Compared → List ℕ
+against_drawing title details plans judged None = []
+against_drawing title details plans judged (Some compared) =
+    compared_drawing title (word_here plans judged) details (versions_of plans) compared

@@ -32,14 +32,14 @@ use Rattle.ele_space.specs.declared.amounts.Amount.{Amount}
 use Rattle.ele_space.specs.declared.amounts.Amounts.{Amounts}
 use Rattle.ele_space.specs.Removals.{AreRemovals, removals_member, removals_text}
 use Rattle.ele_space.specs.declared.removals.Removals.{Removals}
-use Rattle.ele_outlook.specs.Against.{AreCompared, against_text, compares, word_here}
+use Rattle.ele_outlook.specs.Against.{AreCompared, against_drawing, against_text, compares, word_here}
 use Rattle.ele_outlook.specs.Input.{closings_of}
 use Rattle.ele_outlook.specs.Parts.{texts_of}
 use Rattle.ele_outlook.specs.Suggested.{IsSuggested, suggested_text, suggests}
 use Rattle.ele_outlook.specs.declared.found.Found.{Found}
 use Rattle.ele_outlook.specs.declared.options.ForecastOptions.{ForecastOptions}
 use Rattle.ele_outlook.specs.declared.options.Form.{Form}
-use Rattle.ele_outlook.specs.declared.options.Form.TheVariants.{Table, Drawing, BytesDrawing, Due, Kept, Json, Csv, Every, EveryCsv, Against, Suggest}
+use Rattle.ele_outlook.specs.declared.options.Form.TheVariants.{Table, Drawing, BytesDrawing, Due, Kept, Json, Csv, Every, EveryCsv, AgainstDrawing, Against, Suggest}
 use Rattle.ele_outlook.specs.declared.options.LineForm.{LineForm}
 
 -- the numbers of the listed versions: those that are due at the first of the moments, or kept then
@@ -54,6 +54,7 @@ numbers_at Json forecasts (staying ∷ others) = []
 numbers_at Csv forecasts (staying ∷ others) = []
 numbers_at (Every step) forecasts (staying ∷ others) = []
 numbers_at (EveryCsv step) forecasts (staying ∷ others) = []
+numbers_at AgainstDrawing forecasts (staying ∷ others) = []
 numbers_at (Against layout) forecasts (staying ∷ others) = []
 numbers_at (Suggest layout) forecasts (staying ∷ others) = []
 
@@ -118,6 +119,8 @@ told_text Json options details plans found = told_json details plans found.judge
 told_text Csv options details plans found = told_csv details plans found.judged.items
 told_text (Every step) options details plans found = told_over_time options.sizes plans found
 told_text (EveryCsv step) options details plans found = amounts_csv options.sizes plans found.amounts.items
+told_text AgainstDrawing options details plans found =
+    against_drawing options.title.items details plans found.judged.items found.compared
 told_text (Against layout) options details plans found = against_text layout details (word_here plans found.judged.items) found.compared
 told_text (Suggest layout) options details plans found = suggested_text layout options.sizes found.suggested
 
@@ -136,6 +139,7 @@ AreRows Json closings plans rows = rows ≡ []
 AreRows Csv closings plans rows = rows ≡ []
 AreRows (Every step) closings plans rows = AreCountsEvery step closings plans rows
 AreRows (EveryCsv step) closings plans rows = AreCountsEvery step closings plans rows
+AreRows AgainstDrawing closings plans rows = rows ≡ []
 AreRows (Against layout) closings plans rows = rows ≡ []
 AreRows (Suggest layout) closings plans rows = rows ≡ []
 
@@ -160,6 +164,7 @@ amount_moments Json sizes plans rows = []
 amount_moments Csv sizes plans rows = []
 amount_moments (Every step) sizes plans rows = moments_if sizes rows
 amount_moments (EveryCsv step) sizes plans rows = moments_if true rows
+amount_moments AgainstDrawing sizes plans rows = []
 amount_moments (Against layout) sizes plans rows = []
 amount_moments (Suggest layout) sizes plans rows = []
 
@@ -183,6 +188,7 @@ AreDrawn Json amounts drawn = drawn ≡ []
 AreDrawn Csv amounts drawn = drawn ≡ []
 AreDrawn (Every step) amounts drawn = drawn ≡ []
 AreDrawn (EveryCsv step) amounts drawn = drawn ≡ []
+AreDrawn AgainstDrawing amounts drawn = drawn ≡ []
 AreDrawn (Against layout) amounts drawn = drawn ≡ []
 AreDrawn (Suggest layout) amounts drawn = drawn ≡ []
 
@@ -197,6 +203,7 @@ lists_due Kept = false
 lists_due Csv = false
 lists_due (Every step) = false
 lists_due (EveryCsv step) = false
+lists_due AgainstDrawing = false
 lists_due (Against layout) = false
 lists_due (Suggest layout) = false
 
@@ -220,6 +227,7 @@ is_over Json plans = false
 is_over Csv plans = false
 is_over (Every step) plans = is_too_long step plans
 is_over (EveryCsv step) plans = is_too_long step plans
+is_over AgainstDrawing plans = false
 is_over (Against layout) plans = false
 is_over (Suggest layout) plans = false
 
@@ -234,6 +242,7 @@ is_json Kept = false
 is_json Csv = false
 is_json (Every step) = false
 is_json (EveryCsv step) = false
+is_json AgainstDrawing = false
 is_json (Against layout) = false
 is_json (Suggest layout) = false
 

@@ -3,7 +3,7 @@ ghost use Rattle.std.specs.Prelude.{◌≡◌, ◌≢◌, ◌⊎◌, ◌++◌, �
 ghost use Rattle.std.specs.Option.{option_copied};
 ghost use Rattle.memchr.specs.Find.{IsFirstByte, is_byte};
 ghost use Rattle.ele_output.specs.Prints.{Prints};
-ghost use Rattle.ele_outlook.specs.Against.{AreCompared, AreComparedAt, against_text, kept_here, word_here};
+ghost use Rattle.ele_outlook.specs.Against.{AreCompared, AreComparedAt, against_drawing, against_text, kept_here, word_here};
 ghost use Rattle.ele_outlook.specs.Input.{lines_of};
 ghost use Rattle.ele_outlook.specs.Parts.{texts_of};
 
@@ -18,6 +18,7 @@ use ele_forecast_text::{Details, Label, Plan, Staying, versions_of};
 use ele_moment::NoMemory;
 use ele_output::Printer;
 use ele_rule_forecast::{Judged, Verdict};
+use ele_svg::put_compared_drawing;
 use std::alloc::Global;
 use std::io::Write;
 
@@ -159,5 +160,23 @@ pub(crate) fn put_against<W: Write>(
             put_compared_heading(details, printer);
             put_compared_csv(details, word, compared, printer);
         }
+    }
+}
+
+/// Prints who keeps which versions as a drawing with this title, if that was compared.
+pub(crate) fn put_against_drawing<W: Write>(
+    title: &[u8],
+    details: &Details,
+    plans: &[Plan],
+    judged: &[Judged],
+    compared: &Option<Compared>,
+    printer: &mut Printer<'_, W>,
+)
+    ensures { Prints W.contents printer.old printer.new
+        (against_drawing title.now details.now plans.now judged.now compared.now) }
+{
+    if let Some(compared) = compared {
+        let word = word_here(plans, judged);
+        put_compared_drawing(title, word, details, versions_of(plans), compared, printer);
     }
 }

@@ -94,7 +94,7 @@ pub(crate) fn find(
 fn compares(form: Form) -> bool
     ensures { result ≡ compares form }
 {
-    matches!(form, Form::Against(_))
+    matches!(form, Form::AgainstDrawing | Form::Against(_))
 }
 
 // Whether the form suggests a policy.
@@ -161,6 +161,7 @@ fn counted(
         | Form::Kept
         | Form::Json
         | Form::Csv
+        | Form::AgainstDrawing
         | Form::Against(_)
         | Form::Suggest(_) => Ok(Vec::new(alloc)),
     }
@@ -211,6 +212,7 @@ fn amount_moments(
         | Form::Kept
         | Form::Json
         | Form::Csv
+        | Form::AgainstDrawing
         | Form::Against(_)
         | Form::Suggest(_) => Ok(Vec::new(alloc)),
     }
@@ -249,6 +251,7 @@ fn drawn(alloc: Global, form: Form, amounts: &[Amounts]) -> Result<Vec<Counts>, 
         | Form::Csv
         | Form::Every(_)
         | Form::EveryCsv(_)
+        | Form::AgainstDrawing
         | Form::Against(_)
         | Form::Suggest(_) => Ok(Vec::new(alloc)),
     }
@@ -316,6 +319,7 @@ fn listed_of(
         | Form::Csv
         | Form::Every(_)
         | Form::EveryCsv(_)
+        | Form::AgainstDrawing
         | Form::Against(_)
         | Form::Suggest(_) => Ok(Vec::new(alloc)),
         Form::Due => listed_at(alloc, false, forecasts, staying),

@@ -43,6 +43,8 @@ pub enum Form {
     Every(u64),
     /// The same as CSV.
     EveryCsv(u64),
+    /// An SVG drawing of which versions are kept at the first of the moments, and which of them another tool keeps.
+    AgainstDrawing,
     /// Which versions are kept at the first of the moments, and which of them another tool keeps: those
     /// that the first rule keeps, or without a rule the first policy.
     Against(Layout),
@@ -72,7 +74,7 @@ pub struct ForecastOptions {
     pub sizes: bool,
     /// The title of a drawing, in UTF-8. An empty one means no title.
     pub title: Vec<u8>,
-    /// The labels of the versions that another tool keeps, one a line. Only `Against` has these.
+    /// The labels of the versions that another tool keeps, one a line. Only `Against` and its drawing have these.
     pub others: Vec<u8>,
     /// What a suggested policy keeps. Only `Suggest` asks this.
     pub keep: Asked,

@@ -7,7 +7,7 @@ ghost use Rattle.ele_outlook.specs.Foretold.{Foretells, TellsForecast};
 ghost use Rattle.ele_outlook.specs.Reading.{IsOfForm, TellsRead};
 ghost use Rattle.ele_outlook.specs.Told.{freed_table, is_over, names_policies, plain_table, policy_line, removals_part, rules_part, told_csv, told_json, told_of, told_over_time, told_table};
 
-use crate::against::{put_against, word_here};
+use crate::against::{put_against, put_against_drawing, word_here};
 use crate::fault::ForecastFault;
 use crate::found::{Found, find};
 use crate::input::{ReadLines, read_input, read_lines};
@@ -119,6 +119,7 @@ fn is_over(form: Form, plans: &[Plan]) -> bool
         | Form::Kept
         | Form::Json
         | Form::Csv
+        | Form::AgainstDrawing
         | Form::Against(_)
         | Form::Suggest(_) => false,
     }
@@ -184,6 +185,16 @@ fn put_told<W: Write>(
         Form::Every(_) => put_told_over_time(options.sizes, plans, found, printer),
         Form::EveryCsv(_) => {
             put_amounts_csv(options.sizes, plans, found.amounts.as_slice(), printer);
+        }
+        Form::AgainstDrawing => {
+            put_against_drawing(
+                options.title.as_slice(),
+                details,
+                plans,
+                judged,
+                &found.compared,
+                printer,
+            );
         }
         Form::Against(layout) => {
             put_against(

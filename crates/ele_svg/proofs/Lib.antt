@@ -3,3 +3,5 @@ mod Ranges
 mod Ties
 -- the bars of a strip
 mod Bars
+-- the bars of those that both keep, and of others
+mod Groups

@@ -1,3 +1,5 @@
+pub mod ComparedDrawing
+pub mod ComparedKey
 pub mod Curve
 pub mod Drawing
 pub mod Frame

@@ -12,6 +12,7 @@ use Rattle.ele_svg_marks.specs.Mark.{mark_text}
 use Rattle.ele_svg_marks.specs.Places.{x_of}
 use Rattle.ele_svg_marks.specs.declared.mark.Mark.{Mark}
 use Rattle.ele_svg_marks.specs.declared.mark.Mark.TheVariants.{Line}
+use Rattle.ele_svg_marks.specs.declared.mark.Stroke.{Stroke}
 use Rattle.ele_svg_marks.specs.declared.mark.Stroke.TheVariants as stroke
 use Rattle.ele_svg_marks.specs.declared.mark.Words.{Words}
 use Rattle.ele_svg_marks.specs.declared.mark.Words.TheVariants as words
@@ -46,14 +47,14 @@ most_in page level forecasts = fold (λ most column. max most (count_in page lev
 abbrev pub bar_height : ℕ → ℕ → ℕ
 bar_height most count = if count == 0 then 0 else 1 + min (count * 15 / most) 15
 
-abbrev pub bar_marks : ℕ → ℕ → ℕ → List Mark
-bar_marks top column height =
-    if nat_lt 0 height then Line (152 + 4 * column, top + 16) (152 + 4 * column, top + 16 - height) stroke.Bar ∷ [] else []
+abbrev pub bar_marks : Stroke → ℕ → ℕ → ℕ → List Mark
+bar_marks drawn top column height =
+    if nat_lt 0 height then Line (152 + 4 * column, top + 16) (152 + 4 * column, top + 16 - height) drawn ∷ [] else []
 
 -- a strip has a bar for each column
 abbrev pub bar_in : Page → ℕ → ℕ → List Forecast → ℕ → List ℕ
 bar_in page top level forecasts column =
-    flat_map mark_text (bar_marks top column (bar_height (most_in page level forecasts) (count_in page level column forecasts)))
+    flat_map mark_text (bar_marks stroke.Bar top column (bar_height (most_in page level forecasts) (count_in page level column forecasts)))
 
 unfoldable pub bars_drawn : Page → ℕ → ℕ → List Forecast → List ℕ
 bars_drawn page top level forecasts = flat_map (bar_in page top level forecasts) (range_with_len 0 187)

@@ -2,6 +2,7 @@
 #![tactic(auto)]
 
 mod columns;
+mod compared;
 mod curve;
 mod marks;
 mod measure;
@@ -11,5 +12,6 @@ mod strip;
 mod summary;
 
 pub use columns::{curve_moments, drawing_counts};
+pub use compared::put_compared_drawing;
 pub use measure::Measure;
 pub use summary::{put_bytes_drawing, put_drawing};

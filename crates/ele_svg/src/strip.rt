@@ -14,8 +14,8 @@ use ele_policy::Cause;
 use ele_svg_marks::{Fill, Mark, Page, Side, Stroke, Words, put_marks};
 use std::io::Write;
 
-// The bars of a strip stand in so many columns.
-const COLUMNS: u64 = 187;
+/// The bars of a strip stand in so many columns.
+pub(crate) const COLUMNS: u64 = 187;
 
 /// Puts a strip of all versions, and one for each level of a ladder.
 pub(crate) fn put_strips<W: Write>(
@@ -76,8 +76,8 @@ fn strip_top(page: &Page, level: usize) -> u64
     page.top as u64 + 254 + 22 * level.min(8) as u64
 }
 
-// Puts the bars of a strip.
-fn put_bars<W: Write>(
+/// Puts the bars of a strip.
+pub(crate) fn put_bars<W: Write>(
     page: &Page,
     top: u64,
     level: usize,
@@ -91,7 +91,7 @@ fn put_bars<W: Write>(
     let most = most_in(page, level, forecasts);
     for column in 0..COLUMNS {
         let count = count_in(page, level, column, forecasts);
-        put_bar(top, column, bar_height(most, count), printer);
+        put_bar(Stroke::Bar, top, column, bar_height(most, count), printer);
     }
 }
 
@@ -108,8 +108,8 @@ fn most_in(page: &Page, level: usize, forecasts: &[Forecast]) -> u64
     most
 }
 
-// The larger of two numbers.
-fn larger(a: u64, b: u64) -> u64
+/// The larger of two numbers.
+pub(crate) fn larger(a: u64, b: u64) -> u64
     ensures { result ≡ max a b }
 {
     if a < b { b } else { a }
@@ -138,15 +138,15 @@ fn one_in(page: &Page, level: usize, column: u64, forecast: &Forecast) -> u64
     }
 }
 
-// The column in which a version closed.
-fn column_of(page: &Page, forecast: &Forecast) -> u64
+/// The column in which a version closed.
+pub(crate) fn column_of(page: &Page, forecast: &Forecast) -> u64
     ensures { result ≡ column_of page.now forecast.now }
 {
     page.x(forecast.closed).saturating_sub(150) / 4
 }
 
-// How high the bar of so many versions is, if the most are so many.
-fn bar_height(most: u64, count: u64) -> u64
+/// How high the bar of so many versions is, if the most are so many.
+pub(crate) fn bar_height(most: u64, count: u64) -> u64
     requires { 0 < most }
     ensures value { result ≡ bar_height most count }
     ensures small { result ≤ 16 }
@@ -158,20 +158,26 @@ fn bar_height(most: u64, count: u64) -> u64
     1 + height.min(15) as u64
 }
 
-// Puts a bar, unless it has no height.
-fn put_bar<W: Write>(top: u64, column: u64, height: u64, printer: &mut Printer<'_, W>)
+/// Puts a bar that is drawn like that, unless it has no height.
+pub(crate) fn put_bar<W: Write>(
+    stroke: Stroke,
+    top: u64,
+    column: u64,
+    height: u64,
+    printer: &mut Printer<'_, W>,
+)
     requires top { top < 2 ^ 60 }
     requires column { column < 187 }
     requires height { height ≤ 16 }
     ensures { Prints W.contents printer.old printer.new
-        (flat_map mark_text (bar_marks top column height)) }
+        (flat_map mark_text (bar_marks stroke top column height)) }
 {
     if height > 0 {
         let x = 152 + 4 * column;
         let bar = Mark::Line {
             from: (x, top + 16),
             to: (x, top + 16 - height),
-            stroke: Stroke::Bar,
+            stroke,
         };
         put_marks(&[bar], printer);
     }

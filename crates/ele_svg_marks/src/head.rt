@@ -57,8 +57,8 @@ fn put_titled<W: Write>(title: &[u8], printer: &mut Printer<'_, W>)
     }
 }
 
-// Puts the bytes of a title.
-fn put_escaped<W: Write>(title: &[u8], printer: &mut Printer<'_, W>)
+/// Puts a text, as XML has it.
+pub fn put_escaped<W: Write>(title: &[u8], printer: &mut Printer<'_, W>)
     ensures { Prints W.contents printer.old printer.new (escaped title.now) }
 {
     let mut begun = 0;

@@ -9,7 +9,7 @@ mod mark;
 mod page;
 
 pub use calendar::Step;
-pub use head::{put_head, put_heading, put_legend, put_name};
+pub use head::{put_escaped, put_head, put_heading, put_legend, put_name};
 pub use labels::put_labels;
 pub use mark::{Fill, Mark, Place, Side, Stroke, Words, put_marks, put_parts};
 pub use page::{Page, label_rows, last_drawn, page_of, rungs_of};
