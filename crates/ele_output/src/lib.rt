@@ -2,6 +2,7 @@
 //! a printer as an outlet.
 #![tactic(auto)]
 
+mod buffer;
 mod fault;
 mod line;
 mod number;

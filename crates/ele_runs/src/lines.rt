@@ -12,7 +12,6 @@ ghost use Rattle.ele_runs.specs.LineLength.{line_unless_long};
 ghost use Rattle.ele_runs.specs.Note.{cut_note};
 ghost use Rattle.ele_runs.specs.Piece.{AnswersPiece};
 ghost use Rattle.ele_runs.specs.Said.{said_front};
-ghost use Rattle.ele_runs.specs.Tally.{cut_tallied};
 ghost use Rattle.ele_runs.specs.Told.{cut_told};
 ghost use Rattle.ele_runs.specs.Written.{PutsBlock, WritesLast};
 
@@ -20,7 +19,6 @@ use crate::end::{EndLine, RunEnd};
 use crate::line_buffer::{LineBuffer, kept_line};
 use crate::runner::Runner;
 use crate::said::Said;
-use crate::tally::Tally;
 use ele_model::{Explain, FromFlat};
 use ele_output::{Printer, WriteFault};
 use ele_script::{LineFault, put_fault};
@@ -133,37 +131,28 @@ fn put_cut<C: Explain + FromFlat, W: Write>(
     1
 }
 
-// Returns the tally, with a last line without its line feed.
-fn tally_of<C: Explain + FromFlat>(buffer: &LineBuffer, runner: &Runner<C>) -> Tally
-    requires { runner.now.number + 1 < 2 ^ 64 }
-    ensures { result ≡ cut_tallied runner.now.tally (runner.now.number + 1) buffer.now }
-{
-    let mut tally = runner.tally();
-    tally.add_cut(runner.lines() + 1, buffer);
-    tally
-}
-
 /// Writes the buffered output, and the block and the reason of a last line without its line feed.
 /// Returns the end of the run: the last line counts unless it is empty, and then ends a strict run.
 /// Returns a fault if the writer fails: then it took a prefix.
 pub(crate) fn finish<C: Explain + FromFlat, W: Write, E: Write>(
     buffer: LineBuffer,
-    runner: &Runner<C>,
+    runner: &mut Runner<C>,
     printer: &mut Printer<'_, W>,
     reasons: &mut Printer<'_, E>,
 ) -> Result<RunEnd, WriteFault>
-    requires { runner.now.number + 1 < 2 ^ 64 }
-    ensures last { WritesLast runner.now buffer (outlet W.contents printer.old)
+    requires goes_on { runner.old.ended ≡ false }
+    requires few { runner.old.number + 1 < 2 ^ 64 }
+    ensures last { WritesLast runner.old buffer (outlet W.contents printer.old)
         (outlet W.contents printer.new) result }
     ensures noted { Outputs (outlet E.contents reasons.old) (outlet E.contents reasons.new)
-        (cut_note runner.now buffer) }
+        (cut_note runner.old buffer) }
 {
     runner.tell_cut(buffer.line(), reasons);
     let cut = put_cut(buffer.line(), runner, printer);
     printer.hand_over()?;
     let lines = runner.lines() + cut;
-    let tally = tally_of(&buffer, runner);
     if runner.options().strict && cut > 0 {
+        let tally = runner.end_at_cut(&buffer);
         return Ok(RunEnd {
             lines,
             ended_by: Some(EndLine {
@@ -173,6 +162,7 @@ pub(crate) fn finish<C: Explain + FromFlat, W: Write, E: Write>(
             tally,
         });
     }
+    let tally = runner.end_at_cut(&buffer);
     Ok(RunEnd {
         lines,
         ended_by: None,

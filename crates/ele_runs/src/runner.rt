@@ -6,10 +6,12 @@ ghost use Rattle.ele_history.specs.Past.{fresh};
 ghost use Rattle.ele_output.specs.Outlet.{Outlet, Outputs};
 ghost use Rattle.ele_output.specs.Prints.{outlet};
 ghost use Rattle.ele_runs.specs.RunState.{begun, counted, no_printer, noting};
+ghost use Rattle.ele_runs.specs.Tally.{cut_tallied};
 ghost use Rattle.ele_runs.specs.Note.{IsNoted, cut_note};
 ghost use Rattle.ele_runs.specs.Block.{IsTextIn};
 ghost use Rattle.ele_runs.specs.Written.{AsksEventIn, HearsNext, PutsBlock, event_said};
 
+use crate::line_buffer::LineBuffer;
 use crate::note::{report_why, why_bad, why_cut};
 use crate::said::{
     Said, asked_event, event_outcome, hear_kept, last_reply, put_event_answer, put_number_front,
@@ -24,6 +26,7 @@ use ele_run_options::RunOptions;
 use std::alloc::Global;
 use std::io::Write;
 use std::marker::Model;
+use std::mem;
 
 /// A run over a history: its options, the number of its lines and their tally.
 #[derive(Drop)]
@@ -34,18 +37,20 @@ pub(crate) struct Runner<C: Explain + FromFlat> {
     lines: u64,
     has_ended: bool,
     tally: Tally,
+    // For the first bad line: memory can't be refused then.
+    spare: Option<LineBuffer>,
 }
 
 impl<C: Explain + FromFlat> Model for Runner<C> {
-    ghost use Rattle.std.specs.Prelude.{◌≤◌};
+    ghost use Rattle.std.specs.Prelude.{◌≡◌, ◌≤◌, false, None, IsSome};
     ghost use Rattle.ele_runs.specs.RunState.{RunState, no_printer};
 
     ghost Value = { RunState };
 
     ghost view = { λ k. record { options = k.options; past = k.history; number = k.lines; ended = k.has_ended; tally = k.tally; notes = no_printer } };
 
-    // The tally counts at most the lines that were run.
-    ghost invariant = { λ k. (k.tally.bad ≤ k.lines) × (k.tally.refused ≤ k.lines) × (k.tally.stopped ≤ k.lines) };
+    // The tally counts at most the lines that were run, and there is memory for the first bad line.
+    ghost invariant = { λ k. (k.tally.bad ≤ k.lines) × (k.tally.refused ≤ k.lines) × (k.tally.stopped ≤ k.lines) × (k.has_ended ≡ false → k.tally.first_bad ≡ None → IsSome k.spare) };
 }
 
 impl<C: Explain + FromFlat> Runner<C> {
@@ -58,6 +63,7 @@ impl<C: Explain + FromFlat> Runner<C> {
         ensures { IfOk result (λ runner. runner ≡ begun options (fresh limits) no_printer) }
     {
         let history = History::<C>::new(alloc, limits)?;
+        let spare = Some(LineBuffer::new(alloc)?);
         Ok(Runner {
             alloc,
             history,
@@ -65,6 +71,7 @@ impl<C: Explain + FromFlat> Runner<C> {
             lines: 0,
             has_ended: false,
             tally: Tally::new(),
+            spare,
         })
     }
 
@@ -89,28 +96,42 @@ impl<C: Explain + FromFlat> Runner<C> {
         self.has_ended
     }
 
-    /// Returns a copy of the tally.
-    pub(crate) fn tally(&self) -> Tally
-        ensures value { result ≡ self.now.tally }
-        ensures few { result.bad ≤ self.now.number }
+    /// Ends the run, and returns the tally.
+    pub(crate) fn end(&mut self) -> Tally
+        ensures { result ≡ self.old.tally }
     {
-        self.tally.copy()
+        self.has_ended = true;
+        mem::replace(&mut self.tally, Tally::new())
+    }
+
+    /// Ends the run, and returns the tally with a last line without its line feed.
+    pub(crate) fn end_at_cut(&mut self, line: &LineBuffer) -> Tally
+        requires goes_on { self.old.ended ≡ false }
+        requires few { self.old.number + 1 < 2 ^ 64 }
+        ensures { result ≡ cut_tallied self.old.tally (self.old.number + 1) line.now }
+    {
+        self.has_ended = true;
+        let mut tally = mem::replace(&mut self.tally, Tally::new());
+        tally.add_cut(self.lines + 1, line, &mut self.spare);
+        tally
     }
 
     // Counts the next line, which is `None` if it is too long, by its outcome.
     fn count(&mut self, line: Option<&[u8]>, outcome: Outcome)
-        requires { self.old.number + 1 < 2 ^ 64 }
+        requires goes_on { self.old.ended ≡ false }
+        requires few { self.old.number + 1 < 2 ^ 64 }
         ensures { self.new ≡ counted self.old self.old.past
             (option_map (λ line. line.now) line.entry) outcome self.old.notes }
     {
         self.lines += 1;
-        let is_well = self.tally.add(self.lines, line, outcome);
+        let is_well = self.tally.add(self.lines, line, outcome, &mut self.spare);
         self.has_ended = self.options.strict && !is_well;
     }
 
     // Runs the next line, which is `None` if it is too long, and returns its answer.
     fn hear(&mut self, line: Option<&[u8]>) -> Said
-        requires { self.old.number + 1 < 2 ^ 64 }
+        requires goes_on { self.old.ended ≡ false }
+        requires few { self.old.number + 1 < 2 ^ 64 }
         ensures { HearsNext self.old (option_map (λ line. line.now) line.entry) result self.new }
     {
         let said = hear_kept(self.alloc, self.options, line, &mut self.history);
@@ -122,6 +143,7 @@ impl<C: Explain + FromFlat> Runner<C> {
     // Runs the next line, which asks for the event. Returns the stop, if one came in place of a reply.
     #[tactic(auto, using(crate::proofs::Blocks::event_heard))]
     fn hear_event(&mut self, line: Option<&[u8]>, event: Event) -> Option<Stop>
+        requires goes_on { self.old.ended ≡ false }
         requires few { self.old.number + 1 < 2 ^ 64 }
         requires asks { AsksEventIn self.old.options (option_map (λ line. line.now) line) event }
         ensures { HearsNext self.old (option_map (λ line. line.now) line.entry)

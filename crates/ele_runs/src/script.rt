@@ -55,10 +55,10 @@ fn most_of(left: u64) -> usize
 }
 
 // How a run ended that this line ended.
-fn ended_by<C: Explain + FromFlat>(line: LineBuffer, runner: &Runner<C>) -> RunEnd
-    ensures lines { result.lines ≡ runner.now.number }
+fn ended_by<C: Explain + FromFlat>(line: LineBuffer, runner: &mut Runner<C>) -> RunEnd
+    ensures lines { result.lines ≡ runner.old.number }
     ensures line { result.ended_by ≡ Some (record { line = line; is_cut = false }) }
-    ensures tally { result.tally ≡ runner.now.tally }
+    ensures tally { result.tally ≡ runner.old.tally }
 {
     RunEnd {
         lines: runner.lines(),
@@ -66,7 +66,7 @@ fn ended_by<C: Explain + FromFlat>(line: LineBuffer, runner: &Runner<C>) -> RunE
             line,
             is_cut: false,
         }),
-        tally: runner.tally(),
+        tally: runner.end(),
     }
 }
 
@@ -78,9 +78,11 @@ fn run_pieces<C: Explain + FromFlat, R: Read, W: Write, E: Write>(
     reader: &mut R,
     printer: &mut Printer<'_, W>,
     reasons: &mut Printer<'_, E>,
+    mut buffer: LineBuffer,
     piece: &mut [u8],
 ) -> Result<RunEnd, ShellFault>
     requires piece { length piece.old ≡ PIECE }
+    requires empty { buffer ≡ Some [] }
     requires none { (outlet W.contents printer.old).held ≡ [] }
     requires first { runner.old.number ≡ 0 }
     requires goes_on { runner.old.ended ≡ false }
@@ -89,7 +91,6 @@ fn run_pieces<C: Explain + FromFlat, R: Read, W: Write, E: Write>(
         (outlet W.contents printer.old) (outlet W.contents printer.new)
         (outlet E.contents reasons.new) result }
 {
-    let mut buffer = LineBuffer::new();
     let mut room = MOST_BYTES;
     'pieces: loop {
         printer.hand_over()?;
@@ -117,9 +118,11 @@ fn run_printed<C: Explain + FromFlat, R: Read, W: Write, E: Write>(
     reader: &mut R,
     writer: &mut W,
     reasons: &mut Printer<'_, E>,
+    buffer: LineBuffer,
     piece: &mut [u8],
 ) -> Result<RunEnd, ShellFault>
     requires piece { length piece.old ≡ PIECE }
+    requires empty { buffer ≡ Some [] }
     requires first { runner.old.number ≡ 0 }
     requires goes_on { runner.old.ended ≡ false }
     ensures { Tells (noting runner.old (outlet E.contents reasons.old))
@@ -128,7 +131,7 @@ fn run_printed<C: Explain + FromFlat, R: Read, W: Write, E: Write>(
         × HadMemory result }
 {
     let mut printer = Printer::new(writer);
-    run_pieces(runner, reader, &mut printer, reasons, piece)
+    run_pieces(runner, reader, &mut printer, reasons, buffer, piece)
 }
 
 /// Runs the script that the reader gives in some manner, as `run_over` does without any option, and
@@ -156,14 +159,16 @@ pub fn run_in<C: Explain + FromFlat, R: Read, W: Write, E: Write>(
         → (reader.new ≡ reader.old) × (writer.new ≡ writer.old) × (reasons.new ≡ reasons.old) }
 {
     let mut runner = Runner::<C>::new(alloc, limits, options)?;
+    let buffer = LineBuffer::new(alloc)?;
     let mut piece = [0; PIECE];
-    run_printed(&mut runner, reader, writer, reasons, &mut piece)
+    run_printed(&mut runner, reader, writer, reasons, buffer, &mut piece)
 }
 
 /// Runs the script that the reader gives: answers each whole line at the writer, and answers how
 /// many lines there were, a last one without its line feed counted. An empty line gets no reply, a
 /// line of more than 8,192 bytes only that it is too long, and a last line without its line feed is
-/// never run. The core stands in `alloc`, and the pieces that are read on the stack, 8 KiB at a time.
+/// never run. The core stands in `alloc`, and so do a line that a piece cuts and the first bad line, 8 KiB
+/// each. The pieces that are read are on the stack, 8 KiB at a time.
 /// The writer is not flushed.
 ///
 /// Before it reads on it has handed the answers to all whole lines that it was given to the writer.

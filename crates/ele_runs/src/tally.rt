@@ -1,6 +1,6 @@
 //! Counts the lines of a run that were not answered by `ok`, and keeps the first of them.
 //! A contract sees a tally as its numbers, and a line as its bytes unless it is too long.
-ghost use Rattle.std.specs.Prelude.{◌≡◌, ◌+◌, ◌<◌, ◌^◌};
+ghost use Rattle.std.specs.Prelude.{◌≡◌, ◌+◌, ◌<◌, ◌^◌, None, IsSome};
 ghost use Rattle.std.specs.Option.{option_map};
 ghost use Rattle.ele_runs.specs.Tally.{cut_tallied, fresh_tally, is_well, tallied, whole_bad, with_bad, with_first};
 
@@ -28,18 +28,6 @@ pub struct BadLine {
     pub line: LineBuffer,
     /// Whether it is a last line without its line feed, which is never run.
     pub is_cut: bool,
-}
-
-impl BadLine {
-    fn copy(&self) -> BadLine
-        ensures { result ≡ self.now }
-    {
-        BadLine {
-            number: self.number,
-            line: self.line.copy(),
-            is_cut: self.is_cut,
-        }
-    }
 }
 
 /// The numbers of lines that were not answered by `ok`, and the first of them.
@@ -71,36 +59,27 @@ impl Tally {
         }
     }
 
-    /// Returns a copy.
-    pub(crate) fn copy(&self) -> Tally
-        ensures { result ≡ self.now }
-    {
-        let first_bad = match &self.first_bad {
-            Some(line) => Some(line.copy()),
-            None => None,
-        };
-        Tally {
-            bad: self.bad,
-            refused: self.refused,
-            stopped: self.stopped,
-            first: self.first,
-            first_bad,
-        }
-    }
-
     /// Counts the line with this number and this outcome. Returns whether it was answered by `ok`, or
-    /// not at all.
-    pub(crate) fn add(&mut self, number: u64, line: Option<&[u8]>, outcome: Outcome) -> bool
+    /// not at all. The first bad line is copied into `spare`.
+    pub(crate) fn add(
+        &mut self,
+        number: u64,
+        line: Option<&[u8]>,
+        outcome: Outcome,
+        spare: &mut Option<LineBuffer>,
+    ) -> bool
         requires bad { self.old.bad + 1 < 2 ^ 64 }
         requires refused { self.old.refused + 1 < 2 ^ 64 }
         requires stopped { self.old.stopped + 1 < 2 ^ 64 }
+        requires spare { self.old.first_bad ≡ None → IsSome spare.old }
+        ensures spare { self.new.first_bad ≡ None → IsSome spare.new }
         ensures counts { self.new ≡ tallied self.old number
             (option_map (λ line. line.now) line.entry) outcome }
         ensures well { result ≡ is_well outcome }
     {
         match outcome {
             Outcome::Well => return true,
-            Outcome::Bad => self.add_bad(number, line),
+            Outcome::Bad => self.add_bad(number, line, spare),
             Outcome::Refused => self.refused += 1,
             Outcome::Stopped => self.stopped += 1,
         }
@@ -109,46 +88,47 @@ impl Tally {
     }
 
     /// Counts a last line without its line feed, which is bad unless it is empty.
-    pub(crate) fn add_cut(&mut self, number: u64, line: &LineBuffer)
-        requires { self.old.bad + 1 < 2 ^ 64 }
+    pub(crate) fn add_cut(&mut self, number: u64, line: &LineBuffer, spare: &mut Option<LineBuffer>)
+        requires bad { self.old.bad + 1 < 2 ^ 64 }
+        requires spare { self.old.first_bad ≡ None → IsSome spare.old }
         ensures { self.new ≡ cut_tallied self.old number line.now }
     {
         if line.is_empty() {
             return;
         }
-        self.add_line(BadLine {
-            number,
-            line: line.copy(),
-            is_cut: true,
-        });
+        self.bad += 1;
+        if self.first_bad.is_none()
+            && let Some(mut kept) = spare.take()
+        {
+            kept.copy_from(line);
+            self.first_bad = Some(BadLine {
+                number,
+                line: kept,
+                is_cut: true,
+            });
+        }
         self.note_first(number);
     }
 
     // Counts a bad line. Only the first one is copied.
-    fn add_bad(&mut self, number: u64, line: Option<&[u8]>)
-        requires { self.old.bad + 1 < 2 ^ 64 }
-        ensures { self.new ≡ with_bad self.old
+    #[inline(never)]
+    fn add_bad(&mut self, number: u64, line: Option<&[u8]>, spare: &mut Option<LineBuffer>)
+        requires bad { self.old.bad + 1 < 2 ^ 64 }
+        requires spare { self.old.first_bad ≡ None → IsSome spare.old }
+        ensures first { IsSome self.new.first_bad }
+        ensures counts { self.new ≡ with_bad self.old
             (whole_bad number (option_map (λ line. line.now) line.entry)) }
     {
-        if self.first_bad.is_some() {
-            self.bad += 1;
-            return;
-        }
-        self.add_line(BadLine {
-            number,
-            line: LineBuffer::kept(line),
-            is_cut: false,
-        });
-    }
-
-    // Counts a bad line, and keeps it if it is the first.
-    fn add_line(&mut self, line: BadLine)
-        requires { self.old.bad + 1 < 2 ^ 64 }
-        ensures { self.new ≡ with_bad self.old line }
-    {
         self.bad += 1;
-        if self.first_bad.is_none() {
-            self.first_bad = Some(line);
+        if self.first_bad.is_none()
+            && let Some(mut kept) = spare.take()
+        {
+            kept.keep(line);
+            self.first_bad = Some(BadLine {
+                number,
+                line: kept,
+                is_cut: false,
+            });
         }
     }
 

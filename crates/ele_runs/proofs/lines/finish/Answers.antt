@@ -14,7 +14,7 @@ pub returns-then-cut-gt0-clause-last : goal.returns-then-cut-gt0-clause-last
 returns-then-cut-gt0-clause-last g c =
     let count = c.put_cut-cut.ensures.count ∙ ap cut_count c.line-2.ensures in
     let strict = ap (λ (m : RunOptions). m.strict) (sym c.options.ensures) ∙ c.if-options.true in (
-      (omega (arith, c.lines.ensures, count), ends_at_cut c.args.runner.now c.args.buffer _ count c.if-cut-gt0.true strict, c.tally_of-tally.ensures),
+      (omega (arith, c.lines.ensures, count), ends_at_cut c.args.runner.now c.args.buffer _ count c.if-cut-gt0.true strict, c.end_at_cut-tally.ensures),
       (puts_no_more (rw c.line-2.ensures at c.put_cut-cut.ensures.put) c.in_ok-hand_over.ensures.0, c.in_ok-hand_over.ensures.1),
     )
 
@@ -25,6 +25,6 @@ returns-clause-last g c =
       | else-options-via-then-options+else-cut-gt0 w ↦ inr (omega (arith, w.if-cut-gt0.false))
       | else-options-via-else-options w ↦ inl (ap (λ (m : RunOptions). m.strict) (sym c.options.ensures) ∙ w.if-options.false)
     ] in (
-      (omega (arith, c.lines.ensures, count), no_end_at c.args.runner.now c.args.buffer _ count either, c.tally_of-tally.ensures),
+      (omega (arith, c.lines.ensures, count), no_end_at c.args.runner.now c.args.buffer _ count either, c.end_at_cut-tally-2.ensures),
       (puts_no_more (rw c.line-2.ensures at c.put_cut-cut.ensures.put) c.in_ok-hand_over.ensures.0, c.in_ok-hand_over.ensures.1),
     )

@@ -8,6 +8,11 @@ returns-in_err-runner-clause-told g c =
     let p = err_from_is_err_and c.from_residual.result c.from_residual.ensures.1 in
     rw (p.1, p.2) (Keeps-refl _, Keeps-refl _, refl)
 
+pub returns-in_err-buffer-clause-told : goal.returns-in_err-buffer-clause-told
+returns-in_err-buffer-clause-told g c =
+    let p = err_from_is_err_and c.from_residual-in_err-buffer.result c.from_residual-in_err-buffer.ensures.1 in
+    rw (p.1, p.2) (Keeps-refl _, Keeps-refl _, refl)
+
 pub returns-clause-told : goal.returns-clause-told
 returns-clause-told g c = (rw c.in_ok-runner.ensures at c.run_printed.ensures).0
 

@@ -7,7 +7,7 @@ use Rattle.ele_runs.proofs.Ran.{ran_none, ran_over, ran_on}
 use Rattle.ele_runs.proofs.script.run_pieces.Goals as goal
 
 pub pieces-init : goal.pieces-init
-pieces-init g c = ran_none _ _ _ _ c.new-buffer.ensures c.requires.none c.requires.first c.requires.goes_on
+pieces-init g c = ran_none _ _ _ _ c.requires.empty c.requires.none c.requires.first c.requires.goes_on
 
 pub returns-in_err-hand_over : goal.returns-in_err-hand_over
 returns-in_err-hand_over g c =
