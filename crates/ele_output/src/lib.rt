@@ -2,7 +2,6 @@
 //! a printer as an outlet.
 #![tactic(auto)]
 
-mod buffer;
 mod fault;
 mod line;
 mod number;

@@ -5,8 +5,8 @@ ghost use Rattle.ele_output.specs.Front.{WritesText};
 ghost use Rattle.ele_output.specs.Outlet.{HandsOver, Outputs, Reports, Sends, room};
 ghost use Rattle.ele_output.specs.Prints.{outlet, Prints};
 
-use crate::buffer::Buffer;
 use crate::fault::WriteFault;
+use arrayvec::ArrayVec;
 use std::io::{ErrorKind, Write};
 
 /// The size of a printer's buffer, in bytes.
@@ -17,7 +17,7 @@ pub const ROOM: usize = 8192;
 /// dropped is lost too.
 #[derive(Drop)]
 pub struct Printer<'w, W: Write> {
-    held: Buffer<ROOM>,
+    held: ArrayVec<u8, ROOM>,
     writer: &'w mut W,
     has_failed: bool,
 }
@@ -31,7 +31,7 @@ impl<'w, W: Write> Printer<'w, W> {
         ensures well { result.has_failed ≡ false }
     {
         Printer {
-            held: Buffer::new(),
+            held: ArrayVec::new(),
             writer,
             has_failed: false,
         }
