@@ -1,5 +1,5 @@
 -- One line of a dialog.
-use Rattle.ele_dialog.proofs.Basics.{Err, List, Ok, Option, Result, false, inl, inr, refl, true, ℕ}
+use Rattle.ele_dialog.proofs.Basics.{Err, List, Ok, [], Option, Result, false, inl, inr, refl, true, ℕ}
 use Rattle.std.specs.Prelude.{Bool}
 use Rattle.ele_dialog.specs.Answer.{IsAnswered}
 use Rattle.ele_dialog.specs.Dialog.{cut_text}
@@ -35,7 +35,7 @@ pub next_whole : (number : ℕ) (before : Past) (input rest : Option (List ℕ))
 next_whole number before input rest line after a b (Ok true) read is = (record { line = line; whole = read.0; taken = read.1; answered = is.1 }, is.2)
 next_whole number before input rest line after a b (Ok false) read is = absurd cc
 next_whole number before input rest line after a b (Err WriteFault) read is = inl (record { line = line; whole = read.0; taken = read.1; answered = is })
-next_whole number before input rest line after a b (Err NoMemory) read is = tt
+next_whole number before input rest line after a b (Err NoMemory) read is = inr (record { line = line; whole = read.0; taken = read.1; unanswered = is.0; put = is.1 })
 next_whole number before input rest line after a b (Err ReadFault) read is = absurd is
 next_whole number before input rest line after a b (Err TooManyLines) read is = absurd is
 
@@ -53,6 +53,6 @@ next_last number before input rest line after a b (Err TooManyLines) read is = a
 pub next_failed : (number : ℕ) (before : Past) (input rest : Option (List ℕ)) (line : List ℕ) (after : Past) (a : Outlet) (fault : ShellFault) → ReadsLine input rest line (Err fault)
     → AnswersNext number before input rest after a a (Err fault)
 next_failed number before input rest line after a ReadFault read = (line, read.0, read.1, refl)
-next_failed number before input rest line after a NoMemory read = tt
+next_failed number before input rest line after a NoMemory read = inl (record { part = read.0; some = read.1; whole = read.2; taken = read.3; same = refl })
 next_failed number before input rest line after a WriteFault read = absurd read
 next_failed number before input rest line after a TooManyLines read = absurd read

@@ -1,14 +1,15 @@
 -- What was typed and answered so far, and how it ends.
-use Rattle.ele_dialog.proofs.Basics.{AllByRecursion, Consumes, Consumes-nil, Consumes-trans, Err, List, Ok, Option, Result, [], ap, append-nil, append_assoc, arith, inl, inr, length, refl, subst, sym, ℕ, ◌++◌, ◌+◌, ◌∙◌, ◌∷◌, ◌≡◌}
+use Rattle.ele_dialog.proofs.Basics.{AllByRecursion, Appends, Consumes, Consumes-nil, Consumes-trans, Err, List, None, Ok, Option, Result, Some, [], ap, append-nil, append_assoc, arith, inl, inr, length, refl, subst, sym, ℕ, ◌++◌, ◌+◌, ◌∙◌, ◌∷◌, ◌≡◌}
 use Rattle.std.proofs.lemmas.List.{length-append}
 use Rattle.ele_dialog.specs.Answer.{IsAnswered}
-use Rattle.ele_dialog.specs.Dialog.{AreAnswered, EndsDialog, IsTyped}
-use Rattle.ele_dialog.specs.Next.{AnswersNext, EndsPrinted, NextLast, NextWhole}
+use Rattle.ele_dialog.specs.Dialog.{AreAnswered, EndsTyping, IsTyped}
+use Rattle.ele_dialog.specs.Dialog.IsStopped.{answering, reading}
+use Rattle.ele_dialog.specs.Next.{AnswersNext, EndsPrinted, NextLast, NextUnanswered, NextUnread, NextWhole}
 use Rattle.ele_history.specs.Past.{Past}
 use Rattle.ele_lists.proofs.Alls.{all-append}
-use Rattle.ele_output.proofs.Known.{all_written, front_written, outputs_of, outputs_then, puts_nil}
+use Rattle.ele_output.proofs.Known.{all_written, front_written, outputs_no_more, outputs_of, outputs_then, puts_nil, puts_short}
 use Rattle.ele_output.specs.Front.{AppendsFront}
-use Rattle.ele_output.specs.Outlet.{IsHandedOver, Outlet, Outputs}
+use Rattle.ele_output.specs.Outlet.{IsHandedOver, Outlet, Outputs, Puts}
 use Rattle.ele_run_options.specs.declared.fault.ShellFault.{ShellFault}
 use Rattle.ele_run_options.specs.declared.fault.ShellFault.TheVariants.{ReadFault, WriteFault, TooManyLines, NoMemory}
 use Rattle.ele_runs.proofs.Ran.{joined_push}
@@ -69,6 +70,12 @@ typed_part {past = past} {input} {mid} {rest} part so whole taken = record {
   answered = so.answered;
 }
 
+-- the input between a line and its line feed
+before_feed : (mid rest : Option (List ℕ)) (line : List ℕ) → Consumes mid rest (line ++ 10 ∷ []) → (at_feed : Option (List ℕ)) × Consumes mid at_feed line × Consumes at_feed rest (10 ∷ [])
+before_feed None rest line taken = (None, tt, tt)
+before_feed (Some xs) None line taken = absurd taken
+before_feed (Some xs) (Some ys) line taken = (Some (10 ∷ ys), taken ∙ append_assoc line (10 ∷ []) ys, refl)
+
 -- the input ended
 pub ends_well : {before past : Past} {input mid rest : Option (List ℕ)} {old between new : Outlet} {count : ℕ} (x : Unit {0})
     → IsHandedOver old → TypedSoFar before input mid old between count past → NextLast mid rest between new → IsHandedOver new → EndsPrinted {A = Unit {0}} before input rest old new (Ok x)
@@ -91,6 +98,32 @@ ends_in_last : {before past : Past} {input mid rest : Option (List ℕ)} {old be
 ends_in_last clean so last =
     let put = outputs_then so.put last.put in (last.line, so.text, typed_part last.line so last.whole last.taken, (put.same, front_written clean.0 put))
 
+-- nothing more was printed, so the writer has all
+still_written : {old between new : Outlet} {text : List ℕ} → IsHandedOver old → Outputs old between text → IsHandedOver between → Puts between new [] → (new.writer ≡ old.writer) × Appends old.known new.known text
+still_written {old} {between} {new} {text} clean put over more =
+    let all = outputs_no_more put (outputs_of more) in
+    let short = puts_short more over.1 (rw over.0 (omega arith)) in
+    (all.same, all_written clean.0 all (short.0 ∙ append-nil between.held ∙ over.0, short.1))
+
+-- there was no memory for the bytes of a line
+ends_unread : {before past : Past} {input mid rest : Option (List ℕ)} {old between new : Outlet} {count : ℕ}
+    → IsHandedOver old → TypedSoFar before input mid old between count past → IsHandedOver between → NextUnread mid rest between new → EndsPrinted {A = Unit {0}} before input rest old new (Err NoMemory)
+ends_unread {old = old} clean so over next =
+    (so.text, reading next.part next.some (typed_part next.part so next.whole next.taken), rw next.same (so.put.same, all_written clean.0 so.put over))
+
+-- there was none for the answer to a line
+ends_unanswered : {before past after : Past} {input mid rest : Option (List ℕ)} {old between new : Outlet} {count : ℕ}
+    → IsHandedOver old → TypedSoFar before input mid old between count past → IsHandedOver between → NextUnanswered past mid rest after between new → EndsPrinted {A = Unit {0}} before input rest old new (Err NoMemory)
+unfolding typed_part
+ends_unanswered {after = after} {mid = mid} {rest = rest} clean so over next =
+    let feed = before_feed mid rest next.line next.taken in
+    (so.text, answering feed.0 next.line after (typed_part next.line so next.whole feed.1) feed.2 next.unanswered, still_written clean so.put over next.put)
+
+-- there are more lines than any input has
+pub ends_long : {before past : Past} {input rest : Option (List ℕ)} {old new : Outlet} {count : ℕ}
+    → IsHandedOver old → TypedSoFar before input rest old new count past → IsHandedOver new → EndsPrinted {A = Unit {0}} before input rest old new (Err ReadFault)
+ends_long {rest = rest} clean so over = ([], so.text, typed_part [] so tt (Consumes-nil rest), (so.put.same, all_written clean.0 so.put over))
+
 -- a fault ended it
 pub ends_badly : {before past : Past} {input mid : Option (List ℕ)} {old between : Outlet} {count : ℕ} (after : Past) (rest : Option (List ℕ)) (new : Outlet) (number : ℕ) (fault : ShellFault) → number ≡ count + 1
     → IsHandedOver old → TypedSoFar before input mid old between count past → IsHandedOver between → AnswersNext number past mid rest after between new (Err fault)
@@ -99,14 +132,15 @@ ends_badly {old = old} after rest new number ReadFault is clean so over (part, w
     (part, so.text, typed_part part so whole taken, rw same (so.put.same, all_written clean.0 so.put over))
 ends_badly after rest new number WriteFault is clean so over (inl next) = ends_in_whole number is clean so next
 ends_badly after rest new number WriteFault is clean so over (inr last) = ends_in_last clean so last
-ends_badly after rest new number NoMemory is clean so over next = tt
+ends_badly after rest new number NoMemory is clean so over (inl next) = ends_unread clean so over next
+ends_badly after rest new number NoMemory is clean so over (inr next) = ends_unanswered clean so over next
 ends_badly after rest new number TooManyLines is clean so over next = absurd next
 
 -- the writer holds what the printer's writer holds, since it is still the same
 pub ended_at : {A : Type 0} (before : Past) (input rest : Option (List ℕ)) (a b : Outlet) (old new : Option (List ℕ)) (r : Result A ShellFault)
-    → EndsPrinted before input rest a b r → a.known ≡ old → (b.writer ≡ a.writer → b.known ≡ new) → EndsDialog before input rest old new r
+    → EndsPrinted before input rest a b r → a.known ≡ old → (b.writer ≡ a.writer → b.known ≡ new) → EndsTyping before input rest old new r
 ended_at before input rest a b old new (Ok x) (part, text, typed, at_end, (same, whole)) e f = (part, text, typed, at_end, rw (← e, ← f same) whole)
 ended_at before input rest a b old new (Err ReadFault) (part, text, typed, (same, whole)) e f = (part, text, typed, rw (← e, ← f same) whole)
 ended_at before input rest a b old new (Err WriteFault) (part, text, typed, (same, front)) e f = (part, text, typed, rw (← e, ← f same) front)
-ended_at before input rest a b old new (Err NoMemory) h e f = tt
+ended_at before input rest a b old new (Err NoMemory) (text, stopped, (same, whole)) e f = (text, stopped, rw (← e, ← f same) whole)
 ended_at before input rest a b old new (Err TooManyLines) h e f = absurd h

@@ -1,5 +1,5 @@
 -- What reading a line takes from a reader. No public clause cites this module.
-use Rattle.std.specs.Prelude.{◌≡◌, ℕ, ◌≤◌, Bool, true, false, List, [], ◌∷◌, ◌++◌, length, take, Option, Some, None, Result, Ok, Err}
+use Rattle.std.specs.Prelude.{◌≡◌, ◌≢◌, ℕ, ◌≤◌, Bool, true, false, List, [], ◌∷◌, ◌++◌, length, take, Option, Some, None, Result, Ok, Err}
 use Rattle.std.specs.Io.KnownBytes.{Consumes, IsAtEnd, Keeps}
 use Rattle.ele_run_options.specs.declared.fault.ShellFault.{ShellFault}
 use Rattle.ele_run_options.specs.declared.fault.ShellFault.TheVariants.{ReadFault, WriteFault, TooManyLines, NoMemory}
@@ -22,11 +22,11 @@ TakesByte old new (Err WriteFault) = ⊥
 TakesByte old new (Err TooManyLines) = ⊥
 TakesByte old new (Err NoMemory) = ⊥
 
--- a whole line was read with its line feed, or a last one; a fault leaves the bytes of a line before it
+-- a whole line was read with its line feed, or a last one; a fault leaves the bytes of a line before it, and without memory there is one
 abbrev pub ReadsLine : Option (List ℕ) → Option (List ℕ) → List ℕ → Result Bool ShellFault → Type 0
 ReadsLine old new line (Ok true) = IsUnbroken line × Consumes old new (line ++ 10 ∷ [])
 ReadsLine old new line (Ok false) = IsUnbroken line × Consumes old new line × IsAtEnd new
 ReadsLine old new line (Err ReadFault) = IsUnbroken line × Consumes old new line
-ReadsLine old new line (Err NoMemory) = Unit {0}
+ReadsLine old new line (Err NoMemory) = (part : List ℕ) × (part ≢ []) × IsUnbroken part × Consumes old new part
 ReadsLine old new line (Err WriteFault) = ⊥
 ReadsLine old new line (Err TooManyLines) = ⊥

@@ -1,6 +1,6 @@
 //! Answers a typed line. A contract sees the text of the answer, and the history after it.
-ghost use Rattle.std.specs.Prelude.{◌≡◌, ◌++◌, IfOk, List, ℕ};
-ghost use Rattle.ele_dialog.specs.Answer.{IsAnswered, IsHeard, IsReasonText, dialog_options, is_bad};
+ghost use Rattle.std.specs.Prelude.{◌≡◌, ◌≢◌, ◌++◌, [], IfErr, IfOk, List, ℕ};
+ghost use Rattle.ele_dialog.specs.Answer.{IsAnswered, IsHeard, IsHeardOnly, IsMadeFirst, IsReasonText, IsUnanswered, dialog_options, is_bad};
 ghost use Rattle.ele_dialog.specs.Dates.{IsDatedText, IsShown};
 ghost use Rattle.ele_dialog.specs.Heading.{headed, heading_of};
 ghost use Rattle.ele_dialog.specs.Places.{places_of};
@@ -35,7 +35,7 @@ fn dialog_options() -> RunOptions
 
 /// Answers the line with this number: by help, or as a run does, with the reason of a bad line before
 /// its answer, a heading above rows and dates behind moments. `NoMemory` if memory for the text is
-/// refused.
+/// refused: the history is then as after the line, and nothing is printed.
 pub(crate) fn put_line<C: Explain + FromFlat, W: Write>(
     alloc: Global,
     number: u64,
@@ -43,9 +43,11 @@ pub(crate) fn put_line<C: Explain + FromFlat, W: Write>(
     history: &mut History<C>,
     printer: &mut Printer<'_, W>,
 ) -> Result<(), NoMemory>
-    ensures { IfOk result (λ _. (text : List ℕ)
+    ensures ok { IfOk result (λ _. (text : List ℕ)
         × IsAnswered number history.old line.now text history.new
         × Prints W.contents printer.old printer.new text) }
+    ensures err { IfErr result (λ _. IsUnanswered history.old line.now history.new
+        × Prints W.contents printer.old printer.new []) }
 {
     match topic_of(line) {
         Some(topic) => put_help(alloc, topic, printer),
@@ -61,8 +63,11 @@ fn put_heard<C: Explain + FromFlat, W: Write>(
     history: &mut History<C>,
     printer: &mut Printer<'_, W>,
 ) -> Result<(), NoMemory>
-    ensures { IfOk result (λ _. (text : List ℕ) × IsHeard number history.old line.now text history.new
+    ensures ok { IfOk result (λ _. (text : List ℕ)
+        × IsHeard number history.old line.now text history.new
         × Prints W.contents printer.old printer.new text) }
+    ensures err { IfErr result (λ _. IsHeardOnly history.old line.now history.new
+        × Prints W.contents printer.old printer.new []) }
 {
     let said = hear_kept(alloc, dialog_options(), kept_line(line), history);
     put_reason(alloc, number, line, &said, printer);
@@ -104,11 +109,13 @@ fn put_said<C: Explain + FromFlat, W: Write>(
     history: &History<C>,
     printer: &mut Printer<'_, W>,
 ) -> Result<(), NoMemory>
-    ensures { IfOk result (λ _. (text shown : List ℕ)
+    ensures ok { IfOk result (λ _. (text shown : List ℕ)
         × IsText (last_reply history.now) history.now.folded history.now.entries said.now text
         × IsShown (places_of said.now (last_reply history.now)) text shown
         × Prints W.contents printer.old printer.new
         (headed (heading_of said.now (last_reply history.now)) shown)) }
+    ensures err { IfErr result (λ _. IsMadeFirst said.now (last_reply history.now)
+        × Prints W.contents printer.old printer.new []) }
 {
     let heading = heading_of(said, last_reply(history));
     match places_of(said, last_reply(history)) {
@@ -126,10 +133,11 @@ fn put_with_dates<C: Explain + FromFlat, W: Write>(
     history: &History<C>,
     printer: &mut Printer<'_, W>,
 ) -> Result<(), NoMemory>
-    ensures { IfOk result (λ _. (text shown : List ℕ)
+    ensures ok { IfOk result (λ _. (text shown : List ℕ)
         × IsText (last_reply history.now) history.now.folded history.now.entries said.now text
         × IsDatedText places text shown
         × Prints W.contents printer.old printer.new (headed heading.now shown)) }
+    ensures err { IfErr result (λ _. Prints W.contents printer.old printer.new []) }
 {
     let text = text_of(alloc, said, history)?;
     let shown = dated(alloc, places, text.as_slice())?;
@@ -145,9 +153,11 @@ fn put_under<C: Explain + FromFlat, W: Write>(
     history: &History<C>,
     printer: &mut Printer<'_, W>,
 ) -> Result<(), NoMemory>
-    ensures { IfOk result (λ _. (text : List ℕ)
+    ensures ok { IfOk result (λ _. (text : List ℕ)
         × IsText (last_reply history.now) history.now.folded history.now.entries said.now text
         × Prints W.contents printer.old printer.new (headed heading.now text)) }
+    ensures err { IfErr result (λ _. (heading.now ≢ [])
+        × Prints W.contents printer.old printer.new []) }
 {
     if heading.is_empty() {
         put_plain(said, history, printer);

@@ -1,6 +1,6 @@
 //! The dialog, line by line. A contract sees the lines that were typed, and what the writer has then.
 ghost use Rattle.std.specs.Prelude.{◌≡◌};
-ghost use Rattle.ele_dialog.specs.Dialog.{EndsDialog, cut_text};
+ghost use Rattle.ele_dialog.specs.Dialog.{EndsDialog, EndsTyping, cut_text};
 ghost use Rattle.ele_dialog.specs.Next.{AnswersLast, AnswersNext, AnswersWhole, EndsPrinted, HandsOn};
 ghost use Rattle.ele_history.specs.Past.{fresh};
 ghost use Rattle.ele_output.specs.Outlet.{IsHandedOver};
@@ -17,12 +17,15 @@ use std::io::{Read, Write};
 
 /// Answers each line that the reader gives before it reads the next, in a history that begins in the
 /// fresh world with these limits. `help`, alone or with a topic, is answered by help. All other lines
-/// are answered as in a run with `--remarks` and `--explain`, but a heading is above rows, and the
-/// reason of a bad line before its answer. A last line without its line feed is never run.
+/// are answered as in a run with `--remarks` and `--explain`, but a heading is above rows, the reason
+/// of a bad line before its answer, and the dates of the moments of a line behind it, after two spaces
+/// and `#`. A last line without its line feed is never run.
 ///
 /// - `ReadFault`: the reader failed; the answers to the lines before are written.
 /// - `WriteFault`: the writer failed, or took no byte of some.
-/// - `NoMemory`: memory for the start, for a line or for the text of an answer was refused.
+/// - `NoMemory`: memory was refused. For the start: nothing is read or written. For the bytes of a
+///   line, or for the text that answers a whole one (help, or an answer with a heading or dates): the
+///   answers to the lines before are written, and nothing of this one's.
 pub fn run_dialog<C: Explain + FromFlat, R: Read, W: Write>(
     alloc: Global,
     limits: Limits,
@@ -45,14 +48,15 @@ fn run_printed<C: Explain + FromFlat, R: Read, W: Write>(
     reader: &mut R,
     writer: &mut W,
 ) -> Result<(), ShellFault>
-    ensures { EndsDialog history.old (R.remaining reader.old) (R.remaining reader.new)
+    ensures { EndsTyping history.old (R.remaining reader.old) (R.remaining reader.new)
         (W.contents writer.old) (W.contents writer.new) result }
 {
     let mut printer = Printer::new(writer);
     run_lines(alloc, history, reader, &mut printer)
 }
 
-// Reads lines and answers them until the input ends, or the reader or the writer fails.
+// Reads lines and answers them until the input ends, the reader or the writer fails, or memory is
+// refused.
 fn run_lines<C: Explain + FromFlat, R: Read, W: Write>(
     alloc: Global,
     history: &mut History<C>,
@@ -74,7 +78,7 @@ fn run_lines<C: Explain + FromFlat, R: Read, W: Write>(
         }
     }
     // No input has so many lines.
-    Err(ShellFault::NoMemory)
+    Err(ShellFault::ReadFault)
 }
 
 // Reads a line and answers it. Returns whether it was a whole one, behind which others may come.

@@ -1,8 +1,8 @@
 //! The line `help`. A contract says which lines ask for help, and on which topic there is some. What
 //! a text says is tested.
-ghost use Rattle.std.specs.Prelude.{◌≡◌, ◌≢◌, ◌++◌, IfOk, List, MatchOption, codes, ℕ};
+ghost use Rattle.std.specs.Prelude.{◌≡◌, ◌≢◌, ◌++◌, [], IfErr, IfOk, List, MatchOption, codes, ℕ};
 ghost use Rattle.std.specs.Option.{option_map};
-ghost use Rattle.std.specs.Str.{bytes_eq};
+ghost use Rattle.std.specs.Str.{IsUtf8, bytes_eq};
 ghost use Rattle.ele_dialog.specs.Help.{IsHelp, IsTopic, IsTopicBehind, first_word};
 ghost use Rattle.ele_output.specs.Prints.{Prints};
 
@@ -63,14 +63,17 @@ fn first_word(words: &[u8]) -> &[u8]
     }
 }
 
-/// Prints the help on a topic, or that there is none. `NoMemory` if memory is refused.
+/// Prints the help on a topic, or that there is none. `NoMemory` if memory is refused, when nothing is
+/// printed.
 pub(crate) fn put_help<W: Write>(
     alloc: Global,
     topic: &[u8],
     printer: &mut Printer<'_, W>,
 ) -> Result<(), NoMemory>
-    ensures { IfOk result (λ _. (text : List ℕ) × IsHelp topic.now text
+    ensures ok { IfOk result (λ _. (text : List ℕ) × IsHelp topic.now text
         × Prints W.contents printer.old printer.new text) }
+    ensures err { IfErr result (λ _. IsUtf8 topic.now
+        × Prints W.contents printer.old printer.new []) }
 {
     let Ok(topic) = str::from_utf8(topic) else {
         printer.put(NO_HELP);

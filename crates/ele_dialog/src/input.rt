@@ -7,7 +7,8 @@ use std::io::{ErrorKind, Read};
 
 /// Reads a line into an empty buffer, without its line feed. Returns whether it has one: only a last
 /// line may have none. Reads no byte behind the line, so that it can be answered before the next one
-/// is there.
+/// is there. `ReadFault` if the reader fails, and `NoMemory` if memory for a byte is refused; bytes of
+/// one line are read then.
 pub(crate) fn read_line<R: Read>(reader: &mut R, line: &mut Vec<u8>) -> Result<bool, ShellFault>
     requires { line.old.items ≡ [] }
     ensures { ReadsLine (R.remaining reader.old) (R.remaining reader.new) line.new.items result }

@@ -11,9 +11,10 @@ use ele_output::Printer;
 use std::alloc::Global;
 use std::io::{Read, Write};
 
-/// Answers the lines that the reader gives, as [ele_dialog] does: with headings above rows, the reason
-/// of a bad line before its answer, and help for `help`. Reports a fault to `errors`. Returns the
-/// exit status.
+/// Answers the lines that the reader gives, as [ele_dialog] does: with headings above rows, the dates of
+/// moments behind each line, the reason of a bad line before its answer, and help for `help`. Reports a
+/// fault to `errors`, also that memory is refused, when the lines before are answered. Returns the exit
+/// status.
 pub fn run_typed<C: Explain + FromFlat, R: Read, W: Write, E: Write>(
     alloc: Global,
     limits: Limits,
