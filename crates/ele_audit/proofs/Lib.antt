@@ -10,3 +10,4 @@ mod Sees
 mod Tells
 pub mod StoryLines
 mod Texts
+mod Walks

@@ -1,8 +1,7 @@
 pub mod Basics
 pub mod Words
-pub mod NameBytes
+pub mod Names
 pub mod Pieces
-pub mod Texts
 pub mod Spelled
 pub mod Tags
 pub mod TaggedFaults
