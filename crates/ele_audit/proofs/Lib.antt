@@ -10,4 +10,3 @@ mod Sees
 mod Tells
 pub mod StoryLines
 mod Texts
-mod Walks

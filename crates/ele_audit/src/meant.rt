@@ -4,16 +4,16 @@ ghost use Rattle.std.specs.Option.{option_copied, option_map};
 ghost use Rattle.std.specs.Result.{result_ok};
 ghost use Rattle.ele_model.specs.NameRows.{target_at};
 ghost use Rattle.ele_model.specs.Tagged.{had_life, version_at, version_meant, walk_meant};
-ghost use Rattle.ele_model.specs.Walk.{file_at, walk_by};
-ghost use Rattle.ele_model.specs.WalkAt.{walk_at};
-ghost use Rattle.ele_model.specs.World.{is_file, next_of};
+ghost use Rattle.ele_model.specs.Walk.{file_at};
+ghost use Rattle.ele_model.specs.WalkAt.{walk_at, walk_covering};
+ghost use Rattle.ele_model.specs.World.{is_file, next_of, root};
 ghost use Rattle.ele_model.specs.declared.rows.Target.TheVariants.{Directory};
 
 use crate::story_info::row_of;
 use crate::version::file_at;
 use ele_model::{FileRow, Flat, NameRow, Target, VersionRow};
 use ele_moment::{DirId, FileId, Moment, Name, VersionNo};
-use ele_path::{Tag, TaggedPath};
+use ele_path::{Path, Tag, TaggedPath};
 
 /// Returns the version that the path and its tag mean. None if they mean none.
 /// Cost: scans the names for each name of the path, then the files and the versions.
@@ -21,7 +21,7 @@ use ele_path::{Tag, TaggedPath};
 pub(crate) fn version_at<'w>(world: &'w Flat, tagged: &TaggedPath) -> Option<&'w VersionRow>
     ensures { option_copied result ≡ result_ok (version_at world.entry.now tagged.now) }
 {
-    let file = file_meant(world, tagged.path().names(), tagged.tag())?;
+    let file = file_meant(world, tagged.path(), tagged.tag())?;
     version_meant(
         world.files.as_slice(),
         world.versions.as_slice(),
@@ -31,7 +31,7 @@ pub(crate) fn version_at<'w>(world: &'w Flat, tagged: &TaggedPath) -> Option<&'w
 }
 
 // The file that the path leads to by the names of the tag's moment, or of now.
-fn file_meant(world: &Flat, path: &[Name], tag: Tag) -> Option<FileId>
+fn file_meant(world: &Flat, path: &Path, tag: Tag) -> Option<FileId>
     ensures { result ≡ result_ok (file_at (walk_meant world.entry.now path.now tag)) }
 {
     let rows = world.names.as_slice();
@@ -42,29 +42,30 @@ fn file_meant(world: &Flat, path: &[Name], tag: Tag) -> Option<FileId>
 }
 
 // The file that the path led to at the moment, which isn't after now.
-fn file_then(rows: &[NameRow], moment: Moment, now: Moment, path: &[Name]) -> Option<FileId>
+fn file_then(rows: &[NameRow], moment: Moment, now: Moment, path: &Path) -> Option<FileId>
     ensures { result ≡ result_ok (file_at (walk_at rows.now moment now path.now)) }
 {
     if now < moment {
         return None;
     }
-    match walk_then(rows, moment, DirId(0), path)? {
+    match walk_then(rows, moment, path)? {
         Target::File(file) => Some(file),
         Target::Directory(_) => None,
     }
 }
 
-// What the names led to from the directory at the moment.
-fn walk_then(rows: &[NameRow], moment: Moment, from: DirId, path: &[Name]) -> Option<Target>
-    ensures { result ≡ result_ok (walk_by (target_at rows.now moment) (Directory from) path.now) }
+// What the path led to at the moment.
+fn walk_then(rows: &[NameRow], moment: Moment, path: &Path) -> Option<Target>
+    ensures { result ≡ result_ok (walk_covering rows.now moment (Directory root) path.now) }
 {
-    let [name, rest @ ..] = path else {
-        return Some(Target::Directory(from));
-    };
-    match target_then(rows, moment, from, name)? {
-        Target::Directory(directory) => walk_then(rows, moment, directory, rest),
-        Target::File(file) => rest.is_empty().then_some(Target::File(file)),
+    let mut at = Target::Directory(DirId(0));
+    for name in path.names() {
+        let Target::Directory(directory) = at else {
+            return None;
+        };
+        at = target_then(rows, moment, directory, &name)?;
     }
+    Some(at)
 }
 
 // What the name in the directory meant at the moment.

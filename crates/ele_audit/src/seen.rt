@@ -12,8 +12,9 @@ use crate::story_file::file_told;
 use crate::story_row::NameStory;
 use ele_history::History;
 use ele_model::{Explain, FromFlat, NameRow, NoMemory, Reply, Target};
-use ele_moment::{FileId, Name};
+use ele_moment::FileId;
 use ele_name_paths::{Above, is_name_to, path_of};
+use ele_path::Path;
 use ele_world::laws;
 use std::alloc::Global;
 
@@ -43,7 +44,7 @@ pub(crate) fn seen_of(alloc: Global, file: FileId, rows: &[NameRow]) -> Result<S
 /// of the rows of names.
 pub(crate) fn seen_before<C: Explain + FromFlat>(
     alloc: Global,
-    path: &[Name],
+    path: &Path,
     history: &History<C>,
 ) -> Result<Option<Seen>, NoMemory>
     ensures { IfOk result
@@ -75,7 +76,7 @@ fn newer(here: Option<Seen>, before: Option<Seen>) -> Option<Seen>
 // The file in the core's world, if the reply removes a version.
 fn seen_at<C: Explain>(
     alloc: Global,
-    path: &[Name],
+    path: &Path,
     core: &C,
     reply: &Reply,
 ) -> Result<Option<Seen>, NoMemory>
@@ -89,7 +90,7 @@ fn seen_at<C: Explain>(
 
 // The file that the path names, or named last, in the core's world.
 #[tactic(auto, using(crate::proofs::Tells::seen_ok, crate::proofs::Tells::seen_err))]
-fn seen_in<C: Explain>(alloc: Global, path: &[Name], core: &C) -> Result<Option<Seen>, NoMemory>
+fn seen_in<C: Explain>(alloc: Global, path: &Path, core: &C) -> Result<Option<Seen>, NoMemory>
     ensures { IfOk result (IsSeen (seen_in path.now (C.world core.now))) }
 {
     let names = core.name_rows()?;

@@ -38,12 +38,12 @@ pub fn story<C: Explain + FromFlat>(
         (world_of history.now) path.now) }
 {
     let world = history.core().flat()?;
-    match file_told(world.names.as_slice(), path.names()) {
+    match file_told(world.names.as_slice(), path) {
         Ok(file) => {
             let seen = seen_of(alloc, file, world.names.as_slice())?;
             Ok(Ok(story_of(alloc, seen, history, &world)?))
         }
-        Err(refusal) => match seen_before(alloc, path.names(), history)? {
+        Err(refusal) => match seen_before(alloc, path, history)? {
             Some(seen) => Ok(Ok(story_of(alloc, seen, history, &world)?)),
             None => Ok(Err(refusal)),
         },
@@ -59,7 +59,7 @@ pub fn story_alone<C: Explain>(path: &Path, core: &C) -> Result<Result<Story, Re
 {
     let world = core.flat()?;
     let alloc = world.names.allocator();
-    match file_told(world.names.as_slice(), path.names()) {
+    match file_told(world.names.as_slice(), path) {
         Ok(file) => {
             let seen = seen_of(alloc, file, world.names.as_slice())?;
             Ok(Ok(beside(seen, Vec::new(alloc), core, &world)?))

@@ -1,21 +1,22 @@
 //! The file of a story: the one that a path names, or named last. A contract sees the names as rows.
-ghost use Rattle.std.specs.Prelude.{◌≡◌, List, None, Option, Some, cond, ℕ};
-ghost use Rattle.ele_model.specs.declared.rows.Target.{Target};
+ghost use Rattle.std.specs.Prelude.{◌≡◌, None, Some, cond};
 ghost use Rattle.std.specs.Option.{option_map, option_or};
 ghost use Rattle.ele_audit.specs.Story.{file_last, file_told, last_meant};
 ghost use Rattle.ele_lists.specs.Last.{last_passing};
 ghost use Rattle.ele_model.specs.NameRows.{is_named};
 ghost use Rattle.ele_model.specs.Walk.{walk_by};
-ghost use Rattle.ele_model.specs.declared.rows.Target.TheVariants.{Directory, File};
+ghost use Rattle.ele_model.specs.World.{root};
+ghost use Rattle.ele_model.specs.declared.rows.Target.TheVariants.{Directory};
 
 use crate::version::file_at;
 use ele_model::{NameRow, Refusal, Target};
 use ele_moment::{DirId, FileId, Name};
+use ele_path::Path;
 
 /// Returns the file that the path names now, or if it names none, that it named last. Refused:
 /// `NoEntry`, `NotDirectory`, `IsDirectory`.
 /// Cost: scans the rows for each name of the path, at most twice.
-pub(crate) fn file_told(rows: &[NameRow], path: &[Name]) -> Result<FileId, Refusal>
+pub(crate) fn file_told(rows: &[NameRow], path: &Path) -> Result<FileId, Refusal>
     ensures { result ≡ file_told rows.now path.now }
 {
     match file_at(rows, path) {
@@ -25,40 +26,31 @@ pub(crate) fn file_told(rows: &[NameRow], path: &[Name]) -> Result<FileId, Refus
 }
 
 // The file that the path named last.
-fn file_last(rows: &[NameRow], path: &[Name]) -> Result<FileId, Refusal>
+fn file_last(rows: &[NameRow], path: &Path) -> Result<FileId, Refusal>
     ensures { result ≡ file_last rows.now path.now }
 {
-    let target = walk_last(rows, DirId(0), path)?;
+    let target = walk_last(rows, path)?;
     match target {
         Target::File(file) => Ok(file),
         Target::Directory(_) => Err(Refusal::IsDirectory),
     }
 }
 
-// What the names led to last from the directory.
-fn walk_last(rows: &[NameRow], from: DirId, path: &[Name]) -> Result<Target, Refusal>
-    ensures { result ≡ walk_by (last_meant rows.now) (Directory from) path.now }
+// What the path led to last.
+fn walk_last(rows: &[NameRow], path: &Path) -> Result<Target, Refusal>
+    ensures { result ≡ walk_by (last_meant rows.now) (Directory root) path.now }
 {
-    let [name, rest @ ..] = path else {
-        return Ok(Target::Directory(from));
-    };
-    let Some(target) = last_meant(rows, from, name) else {
-        return Err(Refusal::NoEntry);
-    };
-    match target {
-        Target::Directory(directory) => walk_last(rows, directory, rest),
-        Target::File(file) => file_alone(file, rest),
+    let mut at = Target::Directory(DirId(0));
+    for name in path.names() {
+        let Target::Directory(directory) = at else {
+            return Err(Refusal::NotDirectory);
+        };
+        let Some(target) = last_meant(rows, directory, &name) else {
+            return Err(Refusal::NoEntry);
+        };
+        at = target;
     }
-}
-
-// The file, if no name comes after it.
-fn file_alone(file: FileId, rest: &[Name]) -> Result<Target, Refusal>
-    ensures { (leads : ℕ → List ℕ → Option Target) → result ≡ walk_by leads (File file) rest.now }
-{
-    if rest.is_empty() {
-        return Ok(Target::File(file));
-    }
-    Err(Refusal::NotDirectory)
+    Ok(at)
 }
 
 // What the name in the directory means, or meant last.

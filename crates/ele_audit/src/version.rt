@@ -4,16 +4,15 @@ ghost use Rattle.std.specs.List.{list_any};
 ghost use Rattle.std.specs.Result.{result_ok};
 ghost use Rattle.ele_audit.specs.Removals.{IsRemovedVersion, MayBeRemoved, removes_number};
 ghost use Rattle.ele_audit.specs.Rows.{is_row_of};
-ghost use Rattle.ele_model.specs.declared.rows.Target.TheVariants.{Directory};
 ghost use Rattle.ele_path.specs.declared.tagged.Tag.TheVariants as tag;
-ghost use Rattle.ele_model.specs.Walk.{file_now, live_target, walk};
+ghost use Rattle.ele_model.specs.Walk.{file_now, live_target, walk_now};
 
 use crate::gone::removed;
 use crate::row::Removed;
 use ele_history::History;
 use ele_model::{Entry, Explain, FromFlat, NameRow, NoMemory, Reply, Target};
 use ele_moment::{DirId, FileId, Name, VersionNo};
-use ele_path::{Tag, TaggedPath};
+use ele_path::{Path, Tag, TaggedPath};
 use std::alloc::Global;
 
 /// Returns the removed version that the path and the number in its tag mean now. None if the tag is
@@ -52,7 +51,7 @@ fn numbered<C: Explain + FromFlat>(
     }
     let rows = removed(alloc, history)?;
     let names = history.core().name_rows()?;
-    let file = file_at(&names, tagged.path().names());
+    let file = file_at(&names, tagged.path());
     Ok(row_in(rows, file, number))
 }
 
@@ -93,27 +92,28 @@ fn row_of(rows: Vec<Removed>, file: FileId, number: VersionNo) -> Option<Removed
         .find(|row| row.key.file == file && row.key.number == number)
 }
 
-/// Returns the file that the names lead to. None if they lead to none.
-pub(crate) fn file_at(rows: &[NameRow], path: &[Name]) -> Option<FileId>
+/// Returns the file that the path leads to. None if it leads to none.
+pub(crate) fn file_at(rows: &[NameRow], path: &Path) -> Option<FileId>
     ensures { result ≡ result_ok (file_now rows.now path.now) }
 {
-    match walk(rows, DirId(0), path)? {
+    match walk(rows, path)? {
         Target::File(file) => Some(file),
         Target::Directory(_) => None,
     }
 }
 
-// What the names lead to from the directory.
-fn walk(rows: &[NameRow], from: DirId, path: &[Name]) -> Option<Target>
-    ensures { result ≡ result_ok (walk rows.now (Directory from) path.now) }
+// What the path leads to.
+fn walk(rows: &[NameRow], path: &Path) -> Option<Target>
+    ensures { result ≡ result_ok (walk_now rows.now path.now) }
 {
-    let [name, rest @ ..] = path else {
-        return Some(Target::Directory(from));
-    };
-    match target_of(rows, from, name)? {
-        Target::Directory(directory) => walk(rows, directory, rest),
-        Target::File(file) => rest.is_empty().then_some(Target::File(file)),
+    let mut at = Target::Directory(DirId(0));
+    for name in path.names() {
+        let Target::Directory(directory) = at else {
+            return None;
+        };
+        at = target_of(rows, directory, &name)?;
     }
+    Some(at)
 }
 
 // What the live name in the directory means.

@@ -16,13 +16,13 @@ pub(crate) fn touches(
     ensures { result ≡ touches within.now (names_in from.now) (names_in to.now) }
 {
     match within {
-        Some(path) => has_begin(path.names(), from) || has_begin(path.names(), to),
+        Some(path) => has_begin(path, from) || has_begin(path, to),
         None => true,
     }
 }
 
 // Whether there is a path that begins with these names.
-fn has_begin(path: &[Name], names: &Option<Vec<Name>>) -> bool
+fn has_begin(path: &Path, names: &Option<Vec<Name>>) -> bool
     ensures { result ≡ option_map_or (is_within path.now) (names_in names.now) false }
 {
     match names {
@@ -32,14 +32,18 @@ fn has_begin(path: &[Name], names: &Option<Vec<Name>>) -> bool
 }
 
 // Whether the names begin with these of the path.
-fn is_within(path: &[Name], names: &[Name]) -> bool
+fn is_within(path: &Path, names: &[Name]) -> bool
     ensures { result ≡ is_within path.now names.now }
 {
-    let [step, steps @ ..] = path else {
-        return true;
-    };
-    let [name, rest @ ..] = names else {
-        return false;
-    };
-    name == step && is_within(steps, rest)
+    let mut rest = names;
+    for step in path.names() {
+        let [name, after @ ..] = rest else {
+            return false;
+        };
+        if *name != step {
+            return false;
+        }
+        rest = after;
+    }
+    true
 }

@@ -3,6 +3,7 @@ use Rattle.ele_commands.proofs.Basics.{nat_tests, arith, rules, true, false, ◌
 use Rattle.ele_commands.specs.Command.{command_words, name_of}
 use Rattle.ele_commands.specs.EventText.{bytes_word}
 use Rattle.ele_output.proofs.Lists.{joined_are}
+use Rattle.ele_path.specs.Path.{path_text}
 use Rattle.ele_path.specs.PathText.{path_word}
 use Rattle.ele_commands.specs.Pieces.{pieces_or_dash}
 use Rattle.hex.specs.Hex.{encode_with}
@@ -38,6 +39,17 @@ two_words first (byte ∷ bytes) some = refl
 pub steps_are : (names : List (List ℕ)) → (length names == 0) ≡ false → path_word names ≡ flat_map (λ (name : List ℕ). 47 ∷ name) names
 steps_are [] some = grind (arith, nat_tests)
 steps_are (name ∷ names) some = refl
+
+-- the word of a path is a slash if its text has no bytes, or else that text
+pub slash_is : (names : List (List ℕ)) (text : List ℕ) → text ≡ path_text names → (length text == 0) ≡ true
+    → 47 ∷ [] ≡ path_word names
+slash_is [] text is none = refl
+slash_is (name ∷ names) text is none = grind (arith, nat_tests)
+
+pub text_is : (names : List (List ℕ)) (text : List ℕ) → text ≡ path_text names → (length text == 0) ≡ false
+    → text ≡ path_word names
+text_is [] text is some = grind (arith, nat_tests)
+text_is (name ∷ names) text is some = is
 
 -- the word of some bytes is their digits
 pub digits_are : (bytes : List ℕ) → (length bytes == 0) ≡ false → bytes_word bytes ≡ encode_lower bytes

@@ -15,22 +15,12 @@ use std::io::Write;
 pub(crate) fn put_path<W: Write>(path: &Path, printer: &mut Printer<'_, W>)
     ensures { Prints W.contents printer.old printer.new (32 ∷ path_word path.now) }
 {
-    let names = path.names();
-    if names.is_empty() {
-        return printer.put(b" /");
-    }
     printer.put(b" ");
-    for name in names {
-        put_step(name.bytes(), printer);
+    let text = path.text();
+    if text.is_empty() {
+        return printer.put(b"/");
     }
-}
-
-// Prints a slash and the bytes of a name.
-fn put_step<W: Write>(name: &[u8], printer: &mut Printer<'_, W>)
-    ensures { Prints W.contents printer.old printer.new (47 ∷ name.now) }
-{
-    printer.put(b"/");
-    printer.put(name);
+    printer.put(text);
 }
 
 /// Prints the tag that follows a path: `@` and a moment, `#` and a version's number, or nothing.

@@ -45,12 +45,11 @@ pub fn resolve_at(
 pub fn parent_now(names: &Names, path: &Path) -> Result<(DirId, Name), Refusal>
     ensures { result ≡ parent_now names.now path.now }
 {
-    let path = path.names();
     let Some(name) = path.last() else {
         return Err(Refusal::IsRoot);
     };
-    match walk(names, &path[..path.len() - 1])? {
-        Target::Directory(directory) => Ok((directory, *name)),
+    match walk(names, path.parents())? {
+        Target::Directory(directory) => Ok((directory, name)),
         Target::File(_) => Err(Refusal::NotDirectory),
     }
 }
@@ -68,18 +67,11 @@ pub fn parent_beside(
     requires { parent_now names.now other.now ≡ Ok known.now }
     ensures { result ≡ parent_now names.now path.now }
 {
-    let beside = before_last(path.names()) == before_last(other.names());
-    match path.names().last() {
-        Some(name) if beside => Ok((known.0, *name)),
+    let beside = path.parents() == other.parents();
+    match path.last() {
+        Some(name) if beside => Ok((known.0, name)),
         _ => parent_now(names, path),
     }
-}
-
-// The names before the last.
-fn before_last(path: &[Name]) -> &[Name]
-    ensures { result.now ≡ take (length path.now - 1) path.now }
-{
-    &path[..path.len().saturating_sub(1)]
 }
 
 /// Returns the directory of the path's last name, that name, and its target. One walk does what
@@ -106,13 +98,12 @@ pub fn stands_in(names: &Names, target: Target, path: &Path) -> bool
     let Target::Directory(directory) = target else {
         return false;
     };
-    let path = path.names();
-    comes_through(names, directory, &path[..path.len().saturating_sub(1)])
+    comes_through(names, directory, path.parents())
 }
 
 // Whether the walk of the live names from the root passes through the directory.
-fn comes_through(names: &Names, id: DirId, path: &[Name]) -> bool
-    ensures { result ≡ comes_through names.now id (Directory root) path.now }
+fn comes_through(names: &Names, id: DirId, path: ele_path::Names<'_>) -> bool
+    ensures { result ≡ comes_through names.now id (Directory root) path.entry }
 {
     let mut at = Target::Directory(ROOT);
     for name in path {
@@ -122,7 +113,7 @@ fn comes_through(names: &Names, id: DirId, path: &[Name]) -> bool
         let Target::Directory(directory) = at else {
             return false;
         };
-        let Some(target) = names.live(directory, name) else {
+        let Some(target) = names.live(directory, &name) else {
             return false;
         };
         at = target;
@@ -131,15 +122,15 @@ fn comes_through(names: &Names, id: DirId, path: &[Name]) -> bool
 }
 
 // Walks along live names from the root.
-fn walk(names: &Names, path: &[Name]) -> Result<Target, Refusal>
-    ensures { result ≡ walk_now names.now path.now }
+fn walk(names: &Names, path: ele_path::Names<'_>) -> Result<Target, Refusal>
+    ensures { result ≡ walk_now names.now path.entry }
 {
     let mut at = Target::Directory(ROOT);
     for name in path {
         let Target::Directory(directory) = at else {
             return Err(Refusal::NotDirectory);
         };
-        let Some(target) = names.live(directory, name) else {
+        let Some(target) = names.live(directory, &name) else {
             return Err(Refusal::NoEntry);
         };
         at = target;
@@ -148,15 +139,15 @@ fn walk(names: &Names, path: &[Name]) -> Result<Target, Refusal>
 }
 
 // Walks along names that covered the moment, from the root.
-fn walk_back(names: &Names, path: &[Name], moment: Moment) -> Result<Target, Refusal>
-    ensures { result ≡ walk_covering names.now moment (Directory root) path.now }
+fn walk_back(names: &Names, path: ele_path::Names<'_>, moment: Moment) -> Result<Target, Refusal>
+    ensures { result ≡ walk_covering names.now moment (Directory root) path.entry }
 {
     let mut at = Target::Directory(ROOT);
     for name in path {
         let Target::Directory(directory) = at else {
             return Err(Refusal::NotDirectory);
         };
-        let Some(target) = names.at(directory, name, moment) else {
+        let Some(target) = names.at(directory, &name, moment) else {
             return Err(Refusal::NoEntry);
         };
         at = target;

@@ -1,7 +1,8 @@
 pub mod Basics
 pub mod Words
-pub mod Names
+pub mod NameBytes
 pub mod Pieces
+pub mod Texts
 pub mod Spelled
 pub mod Tags
 pub mod TaggedFaults

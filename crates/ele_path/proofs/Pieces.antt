@@ -1,10 +1,7 @@
 -- Words and their pieces.
-use Rattle.ele_path.proofs.Basics.{◌≡◌, eqb, ℕ, ◌+◌, ◌<◌, ◌≤◌, leb, true, false, List, [], ◌∷◌, ◌++◌, length, take, drop, get_or, refl, sym, ap, ◌∙◌, arith, Some, None, length-append, All, slice_get, filter_map, enumerate_from, join_with_byte, cons_option, nat_tests, append-nil, take-append-drop, drop_more, All-head, All-tail, All-weaker, All-push, AllPass-from_list_all, slice_split_none, slice_split_at, length-slice_split, join_with_byte-slice_split}
-use Rattle.ele_path.proofs.Words.{IsName, is_name_byte, PathFault, IsPath, path_text, pieces_of, piece_fault, piece_faults}
-use Rattle.ele_path.proofs.Names.{is_name-decides}
-
-abbrev pub faults_from : ℕ → List (List ℕ) → List PathFault
-faults_from n pieces = filter_map (λ (before, piece). piece_fault before piece) (enumerate_from n pieces)
+use Rattle.ele_path.proofs.Basics.{◌≡◌, eqb, ℕ, ◌+◌, ◌<◌, ◌≤◌, leb, true, false, List, [], ◌∷◌, ◌++◌, length, take, drop, get_or, refl, sym, ap, ◌∙◌, arith, Some, None, length-append, All, slice_get, join_with_byte, cons_option, nat_tests, append-nil, take-append-drop, drop_more, All-head, All-tail, All-weaker, All-push, AllPass-from_list_all, slice_split_none, slice_split_at, length-slice_split, join_with_byte-slice_split}
+use Rattle.ele_path.proofs.Words.{IsName, is_name_byte, PathFault, IsPath, path_text, pieces_of, piece_fault, piece_faults, piece_faults_from}
+use Rattle.ele_path.proofs.NameBytes.{is_name-decides}
 
 -- a name after fewer than 32 others is no fault
 name_passes : (n : ℕ) (name : List ℕ) → n < 32 → IsName name → piece_fault n name ≡ None
@@ -14,15 +11,15 @@ name_passes n (byte ∷ bytes) h is =
     rw (few, (is_name-decides (byte ∷ bytes)).1 is) refl
 
 -- names have no fault
-pub names_pass : (n : ℕ) (names rest : List (List ℕ)) → n + length names ≤ 32 → All IsName names → faults_from n (names ++ rest) ≡ faults_from (n + length names) rest
-names_pass n [] rest h are = ap (λ m. faults_from m rest) (omega arith)
+pub names_pass : (n : ℕ) (names rest : List (List ℕ)) → n + length names ≤ 32 → All IsName names → piece_faults_from n (names ++ rest) ≡ piece_faults_from (n + length names) rest
+names_pass n [] rest h are = ap (λ m. piece_faults_from m rest) (omega arith)
 names_pass n (name ∷ names) rest h are = grind (arith, nat_tests, name_passes, All-head, names_pass (n + 1) names rest (omega arith) (All-tail IsName name names are))
 
 plain_unbroken : (byte : ℕ) → is_name_byte byte ≡ true → eqb byte 47 ≡ false
 plain_unbroken byte plain = grind (arith, nat_tests)
 
 -- no byte of a name is a slash
-name_unbroken : (name : List ℕ) → IsName name → All (λ byte. eqb byte 47 ≡ false) name
+pub name_unbroken : (name : List ℕ) → IsName name → All (λ byte. eqb byte 47 ≡ false) name
 name_unbroken name is = All-weaker _ _ plain_unbroken name (AllPass-from_list_all _ name is.plain)
 
 -- the text of names is cut into these
@@ -58,7 +55,7 @@ next_fault pieces names n piece fault is front more here bad =
     ∙ ap (λ (xs : List (List ℕ)). names ++ xs) (drop_more pieces n piece more ∙ ap (λ x. x ∷ rest) (sym here)) in
     let pass = names_pass 0 names (piece ∷ rest) (omega (arith, is.short)) is.named in
     let count : 0 + length names ≡ length names = omega arith in
-    ap (λ xs. slice_get (piece_faults xs) 0) cut ∙ ap (λ faults. slice_get faults 0) (pass ∙ ap (λ m. faults_from m (piece ∷ rest)) count ∙ ap (λ f. cons_option f (faults_from (length names + 1) rest)) bad)
+    ap (λ xs. slice_get (piece_faults xs) 0) cut ∙ ap (λ faults. slice_get faults 0) (pass ∙ ap (λ m. piece_faults_from m (piece ∷ rest)) count ∙ ap (λ f. cons_option f (piece_faults_from (length names + 1) rest)) bad)
 
 -- one more name after fewer than 32
 pub one_more : (names : List (List ℕ)) (name : List ℕ) → IsPath names → length names < 32 → IsName name → IsPath (names ++ name ∷ [])

@@ -1,7 +1,7 @@
 -- What a word spells.
 use Rattle.ele_path.proofs.Basics.{◌≡◌, eqb, ℕ, ◌-◌, ◌≤◌, get_or, take, drop, List, [], ◌∷◌, ◌++◌, length, refl, sym, ap, ◌∙◌, arith, nat_tests, ◌⊎◌, inl, inr, Some, None, slice_get, All, append-nil, take_all, All-head, length-slice_split}
-use Rattle.ele_path.proofs.Words.{IsName, PathFault, NoMemory, IsPath, SpellsPath, path_text, pieces_of, piece_faults, path_fault}
-use Rattle.ele_path.proofs.Pieces.{names_pass, pieces_of_text, text_of_pieces, faults_from}
+use Rattle.ele_path.proofs.Words.{IsName, PathFault, NoMemory, IsPath, SpellsPath, path_text, pieces_of, piece_faults, piece_faults_from, path_fault}
+use Rattle.ele_path.proofs.Pieces.{names_pass, pieces_of_text, text_of_pieces}
 
 -- pieces that are a path are what the word spells
 pub spelled : (text : List ℕ) (names : List (List ℕ)) → IsPath names → names ≡ pieces_of text → SpellsPath (47 ∷ text) names
@@ -47,7 +47,7 @@ faultless : (word : List ℕ) (names : List (List ℕ)) → IsPath names → IsC
 faultless word names is (alone word_is names_is) = ap path_fault word_is
 faultless word names is (cut byte text word_is names_is) =
     let pass = names_pass 0 names [] (omega (arith, is.short)) is.named in
-    ap path_fault word_is ∙ ap (λ (pieces : List (List ℕ)). slice_get (faults_from 0 pieces) 0) (sym names_is ∙ sym (append-nil names)) ∙ ap (λ faults. slice_get faults 0) pass
+    ap path_fault word_is ∙ ap (λ (pieces : List (List ℕ)). slice_get (piece_faults_from 0 pieces) 0) (sym names_is ∙ sym (append-nil names)) ∙ ap (λ faults. slice_get faults 0) pass
 
 -- a word that spells a path has no fault
 pub spelled_faultless : (word : List ℕ) (names : List (List ℕ)) → SpellsPath word names → path_fault word ≡ None

@@ -3,9 +3,11 @@ pub use Rattle.ele_moment.specs.Name.{IsName, is_name_byte}
 pub use Rattle.ele_moment.specs.Number.{SpellsNumber}
 pub use Rattle.ele_moment.specs.Spelled.{SpellsMoment}
 pub use Rattle.ele_path.specs.Begins.{is_tag_text}
-pub use Rattle.ele_path.specs.FirstFault.{is_name, path_fault, piece_fault, piece_faults}
+pub use Rattle.ele_path.specs.FirstFault.{is_name, path_fault, piece_fault, piece_faults, piece_faults_from}
+pub use Rattle.ele_path.specs.NameStart.{IsNameStart}
 pub use Rattle.ele_path.specs.OneMeaning.{OneMeaning}
-pub use Rattle.ele_path.specs.Path.{IsPath, SpellsPath, path_text, pieces_of}
+pub use Rattle.ele_path.specs.Path.{IsNamesText, IsPath, IsPathText, SpellsPath, names_of, path_text, pieces_of}
+pub use Rattle.ele_path.specs.PathText.{path_word}
 pub use Rattle.ele_path.specs.PathAt.{IsMomentFault, IsNumbered, IsPathAtFault, SpellsPathAt, tag_at}
 pub use Rattle.ele_path.specs.Tagged.{SpellsTag, SpellsTaggedPath, is_mark}
 pub use Rattle.ele_path.specs.TaggedFault.{IsTagFault, IsTaggedFault, no_moment, no_number, of_path, of_tag, path_part, tag_part}

@@ -18,9 +18,13 @@ piece_fault before [] = Some BadPath
 piece_fault before (byte ∷ bytes) =
     if nat_le 32 before then Some BadPath else if is_name (byte ∷ bytes) then None else Some BadName
 
+-- the faults of the pieces after so many others, from the left
+abbrev pub piece_faults_from : ℕ → List (List ℕ) → List PathFault
+piece_faults_from before pieces = filter_map (λ (before, piece). piece_fault before piece) (enumerate_from before pieces)
+
 -- the faults of the pieces, from the left
 abbrev pub piece_faults : List (List ℕ) → List PathFault
-piece_faults pieces = filter_map (λ (before, piece). piece_fault before piece) (enumerate_from 0 pieces)
+piece_faults pieces = piece_faults_from 0 pieces
 
 -- the first fault of the word, from the left: a first byte that is no slash, or a piece after it
 abbrev pub path_fault : List ℕ → Option PathFault

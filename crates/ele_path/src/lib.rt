@@ -4,12 +4,15 @@
 
 mod fault;
 mod laws;
+mod names;
 mod path;
 mod path_at;
 mod tagged;
+mod text;
 
 pub use fault::{PathAtFault, PathFault};
 pub use laws::one_meaning;
+pub use names::Names;
 pub use path::Path;
 pub use path_at::PathAt;
 pub use tagged::{Tag, TaggedPath};

@@ -38,7 +38,8 @@ impl PathAt {
     /// It cuts the word at its first `@` or `#`. It reports a fault of the path first, as
     /// `Path::read` does. After a path, `BadMoment` if no moment follows `@`, and `Numbered` if `#`
     /// follows, whatever is after that. `NoMemory` is possible in place of any other answer.
-    /// Cost: grows with the bytes of the word; takes memory for the names, 72 bytes each.
+    /// Cost: grows with the bytes of the word; takes memory for those of the path if they
+    /// are more than 22.
     pub fn read(alloc: Global, word: &[u8]) -> Result<PathAt, PathAtFault>
         ensures found { IfOk result (SpellsPathAt word.now) }
         ensures only { (value : PathAt) → SpellsPathAt word.now value

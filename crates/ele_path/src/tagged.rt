@@ -48,7 +48,8 @@ impl TaggedPath {
     /// It cuts the word at its first `@` or `#`. It reports a fault of the path first, as
     /// `Path::read` does. `BadMoment` if no moment follows `@`, and `BadPath` if no number follows
     /// `#`. `NoMemory` is possible in place of any other answer.
-    /// Cost: grows with the bytes of the word; takes memory for the names, 72 bytes each.
+    /// Cost: grows with the bytes of the word; takes memory for those of the path if they
+    /// are more than 22.
     pub fn read(alloc: Global, word: &[u8]) -> Result<TaggedPath, PathFault>
         ensures found { IfOk result (SpellsTaggedPath word.now) }
         ensures only { (value : TaggedPath) → SpellsTaggedPath word.now value

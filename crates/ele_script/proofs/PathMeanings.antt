@@ -5,7 +5,7 @@ use Rattle.std.specs.List.{cons_option, position_or_len}
 use Rattle.std.specs.Prelude.{All, slice_get}
 use Rattle.ele_moment.specs.Name.{IsName}
 use Rattle.ele_path.specs.Begins.{is_tag_text}
-use Rattle.ele_path.specs.FirstFault.{path_fault, piece_fault, piece_faults}
+use Rattle.ele_path.specs.FirstFault.{path_fault, piece_fault, piece_faults, piece_faults_from}
 use Rattle.ele_path.specs.Path.{SpellsPath, pieces_of}
 use Rattle.ele_path.specs.PathAt.{IsMomentFault, SpellsPathAt, tag_at}
 use Rattle.ele_path.specs.Tagged.{SpellsTag, SpellsTaggedPath, is_mark}
@@ -18,9 +18,8 @@ use Rattle.ele_path.specs.declared.path_at.PathAt.{PathAt}
 use Rattle.ele_path.specs.declared.tagged.Tag.{Tag}
 use Rattle.ele_path.specs.declared.tagged.Tag.TheVariants.{At, Now, Number}
 use Rattle.ele_path.specs.declared.tagged.TaggedPath.{TaggedPath}
-use Rattle.ele_path.proofs.Names.{is_name-decides}
+use Rattle.ele_path.proofs.NameBytes.{is_name-decides}
 use Rattle.ele_path.proofs.PathsAt.{fault_behind}
-use Rattle.ele_path.proofs.Pieces.{faults_from}
 use Rattle.ele_path.proofs.Spelled.{spelled, spelled_faultless}
 use Rattle.ele_path.proofs.Tags.{tag_begins}
 use Rattle.ele_model.specs.declared.event.Source.{Source}
@@ -34,10 +33,10 @@ head_passes n [] faults none = absurd cc
 head_passes n (byte ∷ bytes) faults none = grind (arith, nat_tests, is_name-decides)
 
 -- pieces with no fault are at most 32 names
-pieces_pass : (n : ℕ) (pieces : List (List ℕ)) → n ≤ 32 → slice_get (faults_from n pieces) 0 ≡ None → (n + length pieces ≤ 32) × All IsName pieces
+pieces_pass : (n : ℕ) (pieces : List (List ℕ)) → n ≤ 32 → slice_get (piece_faults_from n pieces) 0 ≡ None → (n + length pieces ≤ 32) × All IsName pieces
 pieces_pass n [] few none = (omega (arith, few), All-nil IsName)
 pieces_pass n (piece ∷ pieces) few none =
-    let head = head_passes n piece (faults_from (n + 1) pieces) none in
+    let head = head_passes n piece (piece_faults_from (n + 1) pieces) none in
     let more = pieces_pass (n + 1) pieces (omega (arith, head.0)) head.2 in
     (omega (arith, more.0), All-cons IsName piece pieces head.1 more.1)
 

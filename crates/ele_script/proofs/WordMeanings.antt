@@ -5,7 +5,7 @@ use Rattle.ele_script.proofs.Prelude.{fault_of_path, SpellsValues, IsOfKind, IsW
 use Rattle.ele_printer.specs.declared.fault.LineFault.TheVariants.{BadName}
 use Rattle.ele_moment.specs.Name.{IsName}
 use Rattle.ele_path.specs.FirstFault.{is_name}
-use Rattle.ele_path.proofs.Names.{is_name-decides}
+use Rattle.ele_path.proofs.NameBytes.{is_name-decides}
 use Rattle.ele_script.specs.Value.{Number, Handle, Version, End, Tagged, Source, Policy}
 use Rattle.ele_script.proofs.Decided.{dec_same, told}
 use Rattle.ele_script.proofs.Laws.{value_kinds}

@@ -9,4 +9,4 @@ returns-then-not-removes_any-clause-ok g c =
 pub returns-clause-ok : goal.returns-clause-ok
 returns-clause-ok g c =
     row_means c.args.history.now c.args.tagged.now c.in_ok-rows.rows.items c.file_at-file.result c.args.number c.row_in.result c.in_ok-rows.ensures.ok
-    (grind (arith, nat_tests, c.file_at-file.ensures, c.deref.ensures.value, c.in_ok-names.ensures, c.core.ensures, c.path.ensures, c.names.ensures.names)) c.requires c.row_in.ensures
+    (grind (arith, nat_tests, c.file_at-file.ensures, c.deref.ensures.value, c.in_ok-names.ensures, c.core.ensures, c.path.ensures)) c.requires c.row_in.ensures

@@ -1,9 +1,0 @@
-use Rattle.std.proofs.Common.{List, ℕ, ◌∷◌, take}
-use Rattle.std.specs.Fmt.{HasWritten, IsPlainFormatter}
-use Rattle.std.specs.List.{flat_map}
-use Rattle.ele_path.proofs.path.PathDisplay.fmt.Given as goal
-
--- a slash and a name are written for each so far
-abbrev pub invariant-loop-name : goal.invariant-loop-name
-invariant-loop-name g l =
-    IsPlainFormatter l.initial.f → HasWritten g.W.Write.write_str_gives l.initial.f (flat_map (λ (name : List ℕ). 47 ∷ name) (take l.name-index l.name-items)) l.f
