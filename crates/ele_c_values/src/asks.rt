@@ -7,7 +7,8 @@ ghost use Rattle.ele_script.specs.PolicyWord.{ReadsPolicy};
 
 use crate::codes::NEVER;
 use ele_model::{
-    Boxed, ByteList, Handle, Moment, Name, Path, PathAt, Policy, Source, Tag, TaggedPath, VersionNo,
+    Boxed, ByteList, Handle, KeptName, Moment, Name, Path, PathAt, Policy, Source, Tag, TaggedPath,
+    VersionNo,
 };
 use ele_script::{LineFault, begins_path, read_policy};
 use std::alloc::Global;
@@ -101,12 +102,12 @@ pub(crate) fn path_at(
 }
 
 /// The name of a group. It takes memory only if it is one.
-pub(crate) fn name(alloc: Global, bytes: &[u8]) -> Result<Boxed<Name>, LineFault>
+pub(crate) fn name(alloc: Global, bytes: &[u8]) -> Result<KeptName, LineFault>
     ensures { Finds (λ name. IsName bytes.now × (name ≡ bytes.now)) (IsNameFault bytes.now)
         (IsName bytes.now) result }
 {
     let name = Name::new(bytes)?;
-    Ok(Boxed::new(alloc, name)?)
+    Ok(KeptName::new(alloc, name)?)
 }
 
 /// The name of a group, and a path.
@@ -114,13 +115,13 @@ pub(crate) fn member(
     alloc: Global,
     group: &[u8],
     bytes: &[u8],
-) -> Result<(Boxed<Name>, Path), LineFault>
+) -> Result<(KeptName, Path), LineFault>
     ensures { Finds (λ both. IsName group.now × (both.0 ≡ group.now) × SpellsPath bytes.now both.1)
         (IsMemberFault group.now bytes.now) (IsName group.now × TakesPath bytes.now) result }
 {
     let name = Name::new(group)?;
     let path = path(alloc, bytes)?;
-    Ok((Boxed::new(alloc, name)?, path))
+    Ok((KeptName::new(alloc, name)?, path))
 }
 
 /// The name of a group, and the moment of a mark.
@@ -128,14 +129,14 @@ pub(crate) fn name_at(
     alloc: Global,
     group: &[u8],
     seconds: u64,
-) -> Result<(Boxed<Name>, Moment), LineFault>
+) -> Result<(KeptName, Moment), LineFault>
     ensures { Finds (λ both. IsName group.now × (both.0 ≡ group.now)
         × (moment_of seconds ≡ Ok both.1))
         (IsMarkFault group.now seconds) (IsName group.now × IsMoment seconds) result }
 {
     let name = Name::new(group)?;
     let at = moment(seconds)?;
-    Ok((Boxed::new(alloc, name)?, at))
+    Ok((KeptName::new(alloc, name)?, at))
 }
 
 /// The name of a group, the moment of a mark, and its end.
@@ -144,7 +145,7 @@ pub(crate) fn mark(
     group: &[u8],
     seconds: u64,
     until: u64,
-) -> Result<(Boxed<Name>, Moment, Option<Moment>), LineFault>
+) -> Result<(KeptName, Moment, Option<Moment>), LineFault>
     ensures { Finds (λ all. IsName group.now × (all.0 ≡ group.now)
         × (moment_of seconds ≡ Ok all.1) × (end_of until ≡ Ok all.2))
         (IsEndFault group.now seconds until)
@@ -153,7 +154,7 @@ pub(crate) fn mark(
     let name = Name::new(group)?;
     let at = moment(seconds)?;
     let end = end(until)?;
-    Ok((Boxed::new(alloc, name)?, at, end))
+    Ok((KeptName::new(alloc, name)?, at, end))
 }
 
 /// A path, and the policy that a word is.

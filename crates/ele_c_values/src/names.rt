@@ -6,10 +6,10 @@ ghost use Rattle.ele_c_values.specs.Numbers.{target_numbers};
 
 use crate::codes::{NO_RESULT, NO_ROW};
 use crate::numbers::{NONE, Numbers};
-use ele_model::{DirId, Name, Reply, Target};
+use ele_model::{DirId, KeptName, Reply, Target};
 
 // `elephant_name_row`: directory, is_directory, id, name_length.
-fn target_numbers(directory: DirId, name: &Name, target: Target) -> Numbers
+fn target_numbers(directory: DirId, name: &KeptName, target: Target) -> Numbers
     ensures { result ≡ target_numbers directory name.now target }
 {
     let length = name.bytes().len() as u64;

@@ -99,34 +99,26 @@ pub fn put_event<W: Write>(event: &Event, printer: &mut Printer<'_, W>)
                 printer,
             )
         }
-        Event::GroupMake(name) => put_parts(Command::GroupMake, &[Name(name.get())], printer),
-        Event::GroupDrop(name) => put_parts(Command::GroupDrop, &[Name(name.get())], printer),
+        Event::GroupMake(name) => put_parts(Command::GroupMake, &[Name(name)], printer),
+        Event::GroupDrop(name) => put_parts(Command::GroupDrop, &[Name(name)], printer),
         Event::GroupAdd(name, path) => {
-            put_parts(Command::GroupAdd, &[Name(name.get()), Path(path)], printer)
+            put_parts(Command::GroupAdd, &[Name(name), Path(path)], printer)
         }
         Event::GroupRemove(name, path) => {
-            put_parts(
-                Command::GroupRemove,
-                &[Name(name.get()), Path(path)],
-                printer,
-            )
+            put_parts(Command::GroupRemove, &[Name(name), Path(path)], printer)
         }
         Event::Mark(name, moment, None) => {
-            put_parts(Command::Mark, &[Name(name.get()), Moment(*moment)], printer)
+            put_parts(Command::Mark, &[Name(name), Moment(*moment)], printer)
         }
         Event::Mark(name, moment, Some(end)) => {
             put_parts(
                 Command::Mark,
-                &[Name(name.get()), Moment(*moment), Moment(*end)],
+                &[Name(name), Moment(*moment), Moment(*end)],
                 printer,
             )
         }
         Event::Unmark(name, moment) => {
-            put_parts(
-                Command::Unmark,
-                &[Name(name.get()), Moment(*moment)],
-                printer,
-            )
+            put_parts(Command::Unmark, &[Name(name), Moment(*moment)], printer)
         }
         Event::CleanOne => put_parts(Command::Clean, &[], printer),
         Event::Note(bytes) => put_parts(Command::Note, &[Bytes(bytes.as_slice())], printer),

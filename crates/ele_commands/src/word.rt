@@ -13,9 +13,9 @@ use crate::byte_words::put_byte_word;
 use crate::path_words::{lemma_tag, put_path, put_tag, tag_of};
 use crate::policy_words::put_policy;
 use ele_model::Source;
-use ele_moment::{Moment, Name};
+use ele_moment::Moment;
 use ele_output::{Printer, put_with_number, put_word};
-use ele_path::{Path, PathAt, Tag, TaggedPath};
+use ele_path::{KeptName, Path, PathAt, Tag, TaggedPath};
 use ele_policy::Policy;
 use std::io::Write;
 
@@ -29,7 +29,7 @@ pub enum Word<'w> {
     /// A moment.
     Moment(Moment),
     /// A name.
-    Name(&'w Name),
+    Name(&'w KeptName),
     /// A path.
     Path(&'w Path),
     /// A path with a tag.

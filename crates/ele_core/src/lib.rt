@@ -36,10 +36,10 @@ pub use ele_events::{Halt, Stat};
 pub use ele_model::{
     Boxed, ByteList, Cause, Cell, Counts, DeletedName, DeletedNameList, DirId, DirectoryRow,
     DraftRow, Event, Fate, FileId, FileRow, FileStat, Flat, GroupList, GroupRow, Handle, HandleRow,
-    Key, KeyList, Kind, Ladder, LimitNumbers, Limits, ListOf, MarkRow, Moment, Name, NameList,
-    NameRow, NoMemory, PassEnd, Path, PathAt, Policy, Reads, Refusal, Reply, Rows, Source,
-    StampsList, Stop, Tag, TaggedPath, Target, Usage, VersionInfo, VersionNo, VersionRow, Which,
-    laws,
+    KeptName, Key, KeyList, Kind, Ladder, LimitNumbers, Limits, ListOf, MarkRow, Moment, Name,
+    NameList, NameRow, NoMemory, PassEnd, Path, PathAt, Policy, Reads, Refusal, Reply, Rows,
+    Source, StampsList, Stop, Tag, TaggedPath, Target, Usage, VersionInfo, VersionNo, VersionRow,
+    Which, deleted_names, laws,
 };
 pub use ele_moment::{BadMoment, BadName};
 pub use ele_path::{PathAtFault, PathFault};

@@ -15,8 +15,8 @@ use ele_checkpoint::number::{number_of, put_number};
 use ele_checkpoint::value::{put_maybe, put_moment, put_policy, put_string};
 use ele_checkpoint::{Flaw, Stop, wrong};
 use ele_model::{Event, ListOf};
-use ele_moment::{Handle, Name, NoMemory};
-use ele_path::Path;
+use ele_moment::{Handle, NoMemory};
+use ele_path::{KeptName, Path};
 use std::alloc::Global;
 
 /// Whether an event may change a world. Else it is a question, which a journal doesn't have.
@@ -53,7 +53,7 @@ fn put_numbered(out: &mut Vec<u8>, kind: u8, n: u64) -> Result<(), NoMemory>
 }
 
 // Adds the number of a kind and a name.
-fn put_named(out: &mut Vec<u8>, kind: u8, name: &Name) -> Result<(), NoMemory>
+fn put_named(out: &mut Vec<u8>, kind: u8, name: &KeptName) -> Result<(), NoMemory>
     ensures { OnOk result (out.new.items ≡ out.old.items ++ kind ∷ string_text name.now) }
 {
     out.push(kind)?;
@@ -118,23 +118,23 @@ impl Item for Event {
                 put_on_path(out, 19, tagged.path())?;
                 put_tag(out, tagged.tag())
             }
-            Event::GroupMake(name) => put_named(out, 20, name.get()),
-            Event::GroupDrop(name) => put_named(out, 21, name.get()),
+            Event::GroupMake(name) => put_named(out, 20, name),
+            Event::GroupDrop(name) => put_named(out, 21, name),
             Event::GroupAdd(name, path) => {
-                put_named(out, 22, name.get())?;
+                put_named(out, 22, name)?;
                 put_path(out, path)
             }
             Event::GroupRemove(name, path) => {
-                put_named(out, 23, name.get())?;
+                put_named(out, 23, name)?;
                 put_path(out, path)
             }
             Event::Mark(name, moment, until) => {
-                put_named(out, 24, name.get())?;
+                put_named(out, 24, name)?;
                 put_moment(out, *moment)?;
                 put_maybe(out, *until)
             }
             Event::Unmark(name, moment) => {
-                put_named(out, 25, name.get())?;
+                put_named(out, 25, name)?;
                 put_moment(out, *moment)
             }
             Event::CleanOne => {

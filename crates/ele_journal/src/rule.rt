@@ -8,7 +8,7 @@ use crate::session::copied;
 use ele_checkpoint::value::{maybe_of, moment_of, name_of, policy_of, string_of};
 use ele_checkpoint::{Flaw, Stop, wrong};
 use ele_model::{Boxed, Event};
-use ele_path::TaggedPath;
+use ele_path::{KeptName, TaggedPath};
 use std::alloc::Global;
 
 /// Reads the values of a kind of event from 17 on.
@@ -57,7 +57,7 @@ fn group_event_of(alloc: Global, kind: u8, bytes: &[u8]) -> Result<(Event, &[u8]
     ensures { Gives (λ x. (x.0, x.1.now)) result (group_event_at kind bytes.now) }
 {
     let (name, rest) = taken!(name_of(bytes));
-    let name = Boxed::new(alloc, name)?;
+    let name = KeptName::new(alloc, name)?;
     if kind == 20 {
         Ok((Event::GroupMake(name), rest))
     } else {
@@ -70,7 +70,7 @@ fn member_event_of(alloc: Global, kind: u8, bytes: &[u8]) -> Result<(Event, &[u8
     ensures { Gives (λ x. (x.0, x.1.now)) result (member_event_at kind bytes.now) }
 {
     let (name, rest) = taken!(name_of(bytes));
-    let name = Boxed::new(alloc, name)?;
+    let name = KeptName::new(alloc, name)?;
     let (path, rest) = taken!(path_of(alloc, rest));
     if kind == 22 {
         Ok((Event::GroupAdd(name, path), rest))
@@ -84,7 +84,7 @@ fn mark_of(alloc: Global, bytes: &[u8]) -> Result<(Event, &[u8]), Stop>
     ensures { Gives (λ x. (x.0, x.1.now)) result (mark_at bytes.now) }
 {
     let (name, rest) = taken!(name_of(bytes));
-    let name = Boxed::new(alloc, name)?;
+    let name = KeptName::new(alloc, name)?;
     let (moment, rest) = taken!(moment_of(rest));
     let (until, rest) = taken!(maybe_of(rest));
     Ok((Event::Mark(name, moment, until), rest))
@@ -95,7 +95,7 @@ fn unmark_of(alloc: Global, bytes: &[u8]) -> Result<(Event, &[u8]), Stop>
     ensures { Gives (λ x. (x.0, x.1.now)) result (unmark_at bytes.now) }
 {
     let (name, rest) = taken!(name_of(bytes));
-    let name = Boxed::new(alloc, name)?;
+    let name = KeptName::new(alloc, name)?;
     let (moment, rest) = taken!(moment_of(rest));
     Ok((Event::Unmark(name, moment), rest))
 }

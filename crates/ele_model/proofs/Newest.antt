@@ -4,7 +4,9 @@ use Rattle.ele_model.proofs.Basics.{values_of, lookup, insert_entry, is_at, opti
 use Rattle.ele_model.proofs.Basics.{lookup-filter-values, IsDistinct-from_sorted, CmpEqualImpliesEq, exact_pairs, exact_unsigned, exact_bytes, lookup-map_values, keys_of-map_values, is_eq-slice_cmp, last_passing, entries_same, filter_map-map, sorted-filter_entries, all-insert_entry}
 use Rattle.ele_model.proofs.Words.{is_named, last_dead, name_cmp, newest_rows, returning_name, returning, World, is_file, next_of, DeletedName, FileRow, NameRow, Target}
 use Rattle.std.specs.List.Sorted.{IsStrictlySortedBy}
-use Rattle.ele_model.specs.Restorable.{restorable}
+use Rattle.ele_model.specs.Restorable.{may_return, restorable, row_of, triple_of}
+use Rattle.std.specs.Prelude.{None, Some, true, false, if◌then◌else◌}
+use Rattle.std.specs.List.{cons_option}
 use Rattle.ele_model.proofs.Listed.{all_sorted, inserted_found}
 
 abbrev pub Key : Type 0
@@ -32,6 +34,23 @@ newest_more xs i x lt is = rw (take_more xs i x lt, ← is, fold-append more [] 
 pub restorable_values : (w : World) → filter_map (returning w) (values_of (newest_rows w.names)) ≡ restorable w
 unfolding restorable
 restorable_values w = filter_map-map (returning w) (λ (e : Entry). e.1) (newest_rows w.names)
+
+-- the restorable name of a row as a triple
+abbrev pub returning_triple : World → NameRow → Option (ℕ × List ℕ × Target)
+returning_triple w row = option_map triple_of (returning w row)
+
+-- the rows of the triples are the restorable names
+rows_of_triples : (w : World) (rows : List NameRow) → map row_of (filter_map (returning_triple w) rows) ≡ filter_map (returning w) rows
+rows_of_triples w [] = refl
+rows_of_triples w (row ∷ rows) = by (returning w row) (rows_of_triples w rows)
+  where
+    by : (is : Option DeletedName) → map row_of (filter_map (returning_triple w) rows) ≡ filter_map (returning w) rows
+        → map row_of (cons_option (option_map triple_of is) (filter_map (returning_triple w) rows)) ≡ cons_option is (filter_map (returning w) rows)
+    by (Some name) are = ap (λ rest. name ∷ rest) are
+    by None are = are
+
+pub restorable_of_triples : (w : World) → map row_of (filter_map (returning_triple w) (values_of (newest_rows w.names))) ≡ restorable w
+restorable_of_triples w = rows_of_triples w (values_of (newest_rows w.names)) ∙ restorable_values w
 
 -- ---- the order of names
 
@@ -99,3 +118,20 @@ restorable_is w items up found =
     sym (filter_map-map (returning_entry w) as_entry items)
     ∙ ap (filter_map (returning_entry w)) (entries_same name_total name_exact (map as_entry items) (targets (dead_of (newest_rows w.names))) up sorted (λ q. found q.0 q.1 ∙ sym (dead_found w.names q.0 q.1)))
     ∙ dead_return w (newest_rows w.names) (newest_own w.names [] tt)
+
+-- those of them whose targets may return are the restorable ones
+kept_return : (w : World) (items : List (ℕ × List ℕ × Target)) → map row_of (filter (λ (item : ℕ × List ℕ × Target). may_return w item.2) items) ≡ filter_map (returning_name w) items
+kept_return w [] = refl
+kept_return w (item ∷ items) = by (may_return w item.2) (kept_return w items)
+  where
+    kept : List (ℕ × List ℕ × Target)
+    kept = filter (λ (other : ℕ × List ℕ × Target). may_return w other.2) items
+
+    by : (may : Bool) → map row_of kept ≡ filter_map (returning_name w) items
+        → map row_of (if may then item ∷ kept else kept) ≡ cons_option (if may then Some (row_of item) else None) (filter_map (returning_name w) items)
+    by true are = ap (λ rest. row_of item ∷ rest) are
+    by false are = are
+
+pub restorable_kept : (w : World) (items : List (ℕ × List ℕ × Target)) → IsStrictlySortedBy name_cmp (keys_of (map as_entry items)) → ((d : ℕ) (n : List ℕ) → lookup (is_at (name_cmp (d, n))) (map as_entry items) ≡ last_dead w.names d n)
+    → map row_of (filter (λ (item : ℕ × List ℕ × Target). may_return w item.2) items) ≡ restorable w
+restorable_kept w items up found = kept_return w items ∙ restorable_is w items up found

@@ -52,3 +52,7 @@ restorable w = filter_map (λ (entry : (ℕ × List ℕ) × NameRow). returning 
 -- a deleted name as a triple of its directory, its name and what it last meant
 abbrev pub triple_of : DeletedName → ℕ × List ℕ × Target
 triple_of row = (row.directory, row.name, row.target)
+
+-- the deleted name of a triple
+abbrev pub row_of : ℕ × List ℕ × Target → DeletedName
+row_of given = record { directory = given.0; name = given.1; target = given.2 }

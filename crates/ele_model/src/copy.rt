@@ -2,9 +2,9 @@
 ghost use Rattle.std.specs.Prelude.{◌≡◌, IfOk, IsOk, false};
 ghost use Rattle.ele_model.specs.ReadersStay.{needs_memory};
 
-use crate::list::GroupList;
+use crate::list::{DeletedNameList, GroupList, NameList};
 use crate::reply::Reply;
-use crate::rows::GroupRow;
+use crate::rows::{DeletedName, GroupRow};
 use ele_lists::ListOf;
 use ele_moment::NoMemory;
 use std::alloc::Global;
@@ -38,6 +38,39 @@ fn copy_groups(alloc: Global, groups: &GroupList) -> Result<GroupList, NoMemory>
     Ok(ListOf::from_vec(rows))
 }
 
+/// A copy of names, in their order.
+fn copy_names(alloc: Global, names: &NameList) -> Result<NameList, NoMemory>
+    ensures { IfOk result (λ copied. copied ≡ names.now) }
+{
+    let mut rows = Vec::new(alloc);
+    for (name, target) in names.as_slice() {
+        rows.push((name.copy(alloc)?, *target))?;
+    }
+    Ok(ListOf::from_vec(rows))
+}
+
+/// A copy of a deleted name.
+fn copy_name(alloc: Global, row: &DeletedName) -> Result<DeletedName, NoMemory>
+    ensures { IfOk result (λ copied. copied ≡ row.now) }
+{
+    Ok(DeletedName {
+        directory: row.directory,
+        name: row.name.copy(alloc)?,
+        target: row.target,
+    })
+}
+
+/// A copy of deleted names, in their order.
+fn copy_deleted(alloc: Global, names: &DeletedNameList) -> Result<DeletedNameList, NoMemory>
+    ensures { IfOk result (λ copied. copied ≡ names.now) }
+{
+    let mut rows = Vec::new(alloc);
+    for row in names.as_slice() {
+        rows.push(copy_name(alloc, row)?)?;
+    }
+    Ok(ListOf::from_vec(rows))
+}
+
 impl Reply {
     /// Returns a copy of the reply.
     ///
@@ -62,8 +95,8 @@ impl Reply {
             Reply::FileStat(stat) => Reply::FileStat(stat.copy(alloc)?),
             Reply::DirStat(row) => Reply::DirStat(row.copy(alloc)?),
             Reply::Rows(rows) => Reply::Rows(copy_list(alloc, rows)?),
-            Reply::NameList(names) => Reply::NameList(copy_list(alloc, names)?),
-            Reply::RestoreList(names) => Reply::RestoreList(copy_list(alloc, names)?),
+            Reply::NameList(names) => Reply::NameList(copy_names(alloc, names)?),
+            Reply::RestoreList(names) => Reply::RestoreList(copy_deleted(alloc, names)?),
             Reply::DueList(keys) => Reply::DueList(copy_list(alloc, keys)?),
             Reply::UsageList(usage) => Reply::UsageList(usage.copy(alloc)?),
             Reply::GroupList(groups) => Reply::GroupList(copy_groups(alloc, groups)?),

@@ -1,9 +1,9 @@
-//! Events: the commands of a world. Policies and names of groups are boxed, so that an event stays
-//! small.
+//! Events: the commands of a world. Policies are boxed and names of groups kept short, so that an
+//! event stays small.
 use crate::boxed::Boxed;
 use ele_lists::ByteList;
-use ele_moment::{Handle, Moment, Name, VersionNo};
-use ele_path::{Path, PathAt, TaggedPath};
+use ele_moment::{Handle, Moment, VersionNo};
+use ele_path::{KeptName, Path, PathAt, TaggedPath};
 use ele_policy::Policy;
 
 /// What a read returns.
@@ -63,18 +63,18 @@ pub enum Event {
     /// Sets the policy that later files and directories in the directory at the path get.
     SetDefault(Path, Boxed<Policy>),
     /// Makes a group of that name, without files and marks.
-    GroupMake(Boxed<Name>),
+    GroupMake(KeptName),
     /// Removes the group and its marks.
-    GroupDrop(Boxed<Name>),
+    GroupDrop(KeptName),
     /// Adds the file at the path to the group.
-    GroupAdd(Boxed<Name>, Path),
+    GroupAdd(KeptName, Path),
     /// Removes the file at the path from the group.
-    GroupRemove(Boxed<Name>, Path),
+    GroupRemove(KeptName, Path),
     /// Marks the group at the first moment, which is before now. No clean removes what was current
     /// then of its files, before the mark ends. It ends at the second moment, if there is one.
-    Mark(Boxed<Name>, Moment, Option<Moment>),
+    Mark(KeptName, Moment, Option<Moment>),
     /// Removes the group's mark at the moment.
-    Unmark(Boxed<Name>, Moment),
+    Unmark(KeptName, Moment),
     /// Removes the first due version.
     CleanOne,
     /// Notes the bytes, at most 200: who makes the next changes, say, and why. It is an entry of the

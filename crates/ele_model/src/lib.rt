@@ -33,7 +33,7 @@ pub use ele_content::Cell;
 pub use ele_due::Key;
 pub use ele_lists::{ByteList, ListOf};
 pub use ele_moment::{DirId, FileId, Handle, Moment, Name, NoMemory, VersionNo};
-pub use ele_path::{Path, PathAt, Tag, TaggedPath};
+pub use ele_path::{KeptName, Path, PathAt, Tag, TaggedPath};
 pub use ele_policy::{Cause, Floor, Interval, Kind, Ladder, Policy};
 pub use ele_usage::Usage;
 pub use entry::Entry;
@@ -43,7 +43,10 @@ pub use fate::Fate;
 pub use flat::Flat;
 pub use from_flat::FromFlat;
 pub use limits::{Counts, LimitNumbers, Limits};
-pub use list::{DeletedNameList, GroupList, KeyList, NameList, Rows, StampsList, triples_of};
+pub use list::{
+    DeletedNameList, GroupList, KeyList, NameList, Rows, StampsList, deleted_names, name_list,
+    triples_of,
+};
 pub use pass::PassEnd;
 pub use refusal::{Refusal, Stop, Which};
 pub use reply::Reply;

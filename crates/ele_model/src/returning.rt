@@ -3,13 +3,12 @@ ghost use Rattle.std.specs.Prelude.{◌≡◌, IfOk, find};
 ghost use Rattle.std.specs.List.{list_any};
 ghost use Rattle.std.specs.Option.{option_map};
 ghost use Rattle.ele_model.specs.NameRows.{is_live_directory};
-ghost use Rattle.ele_model.specs.Restorable.{may_return, newest_rows, returning, restorable};
+ghost use Rattle.ele_model.specs.Restorable.{may_return, newest_rows, returning, restorable, triple_of};
 ghost use Rattle.ele_model.specs.World.{is_file, next_of, is_version};
 
 use crate::flat::Flat;
-use crate::list::DeletedNameList;
-use crate::rows::{DeletedName, FileRow, NameRow, Target, VersionRow};
-use ele_lists::ListOf;
+use crate::list::{DeletedNameList, deleted_names};
+use crate::rows::{FileRow, NameRow, Target, VersionRow};
 use ele_moment::{DirId, FileId, Name, NoMemory, VersionNo};
 use std::alloc::Global;
 use std::collections::BTreeMap;
@@ -69,15 +68,11 @@ fn may_return(world: &Flat, target: Target) -> bool
 }
 
 /// The name, if its newest row is dead and its target may have a name again.
-fn returning(world: &Flat, row: &NameRow) -> Option<DeletedName>
-    ensures { result ≡ returning world.entry.now row.now }
+fn returning(world: &Flat, row: &NameRow) -> Option<(DirId, Name, Target)>
+    ensures { result ≡ option_map triple_of (returning world.entry.now row.now) }
 {
     if row.death.is_some() && may_return(world, row.target) {
-        return Some(DeletedName {
-            directory: row.directory,
-            name: row.name,
-            target: row.target,
-        });
+        return Some((row.directory, row.name, row.target));
     }
     None
 }
@@ -102,9 +97,9 @@ pub fn restorable(world: &Flat) -> Result<DeletedNameList, NoMemory>
 {
     let alloc = world.names.allocator();
     let newest = newest_rows(world.names.as_slice(), alloc)?;
-    let names: Vec<DeletedName> = newest
+    let names: Vec<(DirId, Name, Target)> = newest
         .values()
         .filter_map(|row| returning(world, row))
         .collect(alloc)?;
-    Ok(ListOf::from_vec(names))
+    deleted_names(alloc, names.as_slice())
 }

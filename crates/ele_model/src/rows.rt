@@ -5,6 +5,7 @@ ghost use Rattle.ele_model.specs.FateText.{mark_word};
 use ele_content::Cell;
 use ele_lists::{Keyed, ListOf};
 use ele_moment::{DirId, FileId, Handle, Moment, Name, VersionNo};
+use ele_path::KeptName;
 use ele_policy::Policy;
 use std::fmt;
 
@@ -49,10 +50,10 @@ pub struct NameRow {
 }
 
 /// A name whose newest row is dead, and the target of that row.
-#[derive(Clone, Copy, PartialEq, Eq)]
+#[derive(Drop, PartialEq, Eq)]
 pub struct DeletedName {
     pub directory: DirId,
-    pub name: Name,
+    pub name: KeptName,
     pub target: Target,
 }
 

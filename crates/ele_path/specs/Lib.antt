@@ -1,6 +1,7 @@
 pub mod Path
 pub mod Short
 pub mod Text
+pub mod KeptName
 pub mod NameStart
 pub mod FirstFault
 pub mod Tagged

@@ -3,6 +3,7 @@
 #![tactic(auto)]
 
 mod fault;
+mod kept_name;
 mod laws;
 mod names;
 mod path;
@@ -11,6 +12,7 @@ mod tagged;
 mod text;
 
 pub use fault::{PathAtFault, PathFault};
+pub use kept_name::KeptName;
 pub use laws::one_meaning;
 pub use names::Names;
 pub use path::Path;

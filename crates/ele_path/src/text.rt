@@ -104,7 +104,7 @@ impl Short {
     const MOST_BYTES: usize = 22;
 
     // No bytes.
-    fn new() -> Short
+    pub(crate) fn new() -> Short
         ensures { result ≡ [] }
     {
         Short {
@@ -114,14 +114,14 @@ impl Short {
     }
 
     // Returns the bytes.
-    fn as_slice(&self) -> &[u8]
+    pub(crate) fn as_slice(&self) -> &[u8]
         ensures { result.now ≡ self.now }
     {
         &self.bytes[..usize::from(self.len)]
     }
 
     // Writes the bytes behind the others, if there is room for them.
-    fn push(&mut self, bytes: &[u8]) -> Result<(), AllocError>
+    pub(crate) fn push(&mut self, bytes: &[u8]) -> Result<(), AllocError>
         ensures { self.new ≡ (if is_ok result then self.old ++ bytes.now else self.old) }
     {
         let begin = usize::from(self.len);

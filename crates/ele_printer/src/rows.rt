@@ -8,8 +8,8 @@ ghost use Rattle.ele_printer.specs.Printed.{end_word, file_text, directory_text,
 use crate::row::Row;
 use ele_commands::Word::{self, Number, Plain, Policy};
 use ele_commands::put_line_of;
-use ele_model::{DirectoryRow, FileStat, Target, VersionInfo};
-use ele_moment::{Moment, Name};
+use ele_model::{DirectoryRow, FileStat, KeptName, Target, VersionInfo};
+use ele_moment::Moment;
 use ele_output::Printer;
 use std::io::Write;
 
@@ -75,7 +75,7 @@ pub(crate) fn target_parts(target: Target) -> (&'static [u8], u64)
     }
 }
 
-impl Row for (Name, Target) {
+impl Row for (KeptName, Target) {
     ghost row_line = { name_line };
 
     fn put_row<W: Write>(&self, printer: &mut Printer<'_, W>) {

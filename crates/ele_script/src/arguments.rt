@@ -7,8 +7,8 @@ ghost use Rattle.ele_script.specs.Reads.{Reads};
 
 use crate::word;
 use ele_model::{Boxed, ByteList, Source};
-use ele_moment::{Moment, Name};
-use ele_path::{Path, PathAt, TaggedPath};
+use ele_moment::Moment;
+use ele_path::{KeptName, Path, PathAt, TaggedPath};
 use ele_policy::Policy;
 use ele_printer::LineFault;
 use std::alloc::Global;
@@ -79,12 +79,12 @@ pub(crate) fn moment(words: &[&[u8]]) -> Result<Moment, LineFault>
     word::moment(one(words)?)
 }
 
-pub(crate) fn name(alloc: Global, words: &[&[u8]]) -> Result<Boxed<Name>, LineFault>
+pub(crate) fn name(alloc: Global, words: &[&[u8]]) -> Result<KeptName, LineFault>
     ensures { Reads (NameWord ∷ []) (λ name. value.Name name ∷ [])
         (map (λ word. word.now) words.now) result }
 {
     let name = word::name(one(words)?)?;
-    Ok(Boxed::new(alloc, name)?)
+    Ok(KeptName::new(alloc, name)?)
 }
 
 pub(crate) fn path(alloc: Global, words: &[&[u8]]) -> Result<Path, LineFault>
@@ -186,10 +186,7 @@ pub(crate) fn path_and_policy(
     Ok((first, Boxed::new(alloc, second)?))
 }
 
-pub(crate) fn name_and_path(
-    alloc: Global,
-    words: &[&[u8]],
-) -> Result<(Boxed<Name>, Path), LineFault>
+pub(crate) fn name_and_path(alloc: Global, words: &[&[u8]]) -> Result<(KeptName, Path), LineFault>
     ensures { Reads (NameWord ∷ PathWord ∷ [])
         (λ both. value.Name both.0 ∷ value.Path both.1 ∷ [])
         (map (λ word. word.now) words.now) result }
@@ -197,13 +194,13 @@ pub(crate) fn name_and_path(
     let (first, second) = two(words)?;
     let first = word::name(first)?;
     let second = word::path(alloc, second)?;
-    Ok((Boxed::new(alloc, first)?, second))
+    Ok((KeptName::new(alloc, first)?, second))
 }
 
 pub(crate) fn name_and_moment(
     alloc: Global,
     words: &[&[u8]],
-) -> Result<(Boxed<Name>, Moment), LineFault>
+) -> Result<(KeptName, Moment), LineFault>
     ensures { Reads (NameWord ∷ MomentWord ∷ [])
         (λ both. value.Name both.0 ∷ value.Moment both.1 ∷ [])
         (map (λ word. word.now) words.now) result }
@@ -211,7 +208,7 @@ pub(crate) fn name_and_moment(
     let (first, second) = two(words)?;
     let first = word::name(first)?;
     let second = word::moment(second)?;
-    Ok((Boxed::new(alloc, first)?, second))
+    Ok((KeptName::new(alloc, first)?, second))
 }
 
 pub(crate) fn two_moments(words: &[&[u8]]) -> Result<(Moment, Moment), LineFault>
@@ -241,7 +238,7 @@ pub(crate) fn two_moments_and_path(
 pub(crate) fn name_moment_and_end(
     alloc: Global,
     words: &[&[u8]],
-) -> Result<(Boxed<Name>, Moment, Moment), LineFault>
+) -> Result<(KeptName, Moment, Moment), LineFault>
     ensures { Reads (NameWord ∷ MomentWord ∷ EndWord ∷ [])
         (λ all. value.Name all.0 ∷ value.Moment all.1 ∷ value.End all.2 ∷ [])
         (map (λ word. word.now) words.now) result }
@@ -250,7 +247,7 @@ pub(crate) fn name_moment_and_end(
     let first = word::name(first)?;
     let second = word::moment(second)?;
     let third = word::end(third)?;
-    Ok((Boxed::new(alloc, first)?, second, third))
+    Ok((KeptName::new(alloc, first)?, second, third))
 }
 
 pub(crate) fn handle_number_and_bytes(

@@ -3,8 +3,7 @@ use Rattle.std.proofs.Common.{◌≡◌, ℕ, Bool, List, [], ◌∷◌, map, Re
 use Rattle.std.specs.Prelude.{◌↔◌, IfOk, IsTrue}
 use Rattle.ele_model.specs.declared.rows.DeletedName.{DeletedName}
 use Rattle.ele_model.specs.declared.rows.Target.{Target}
-use Rattle.ele_model.specs.Restorable.{triple_of}
-use Rattle.ele_shell.specs.Audit.{row_of}
+use Rattle.ele_model.specs.Restorable.{row_of, triple_of}
 
 triples_back : (names : List (ℕ × List ℕ × Target)) → map triple_of (map row_of names) ≡ names
 triples_back [] = refl

@@ -6,28 +6,9 @@ ghost use Rattle.ele_usage.specs.Sums.{Fits};
 ghost use Rattle.ele_model.specs.Restorable.{restorable, triple_of};
 ghost use Rattle.ele_model.specs.Scan.{scan};
 ghost use Rattle.ele_model.specs.Usage.{usages};
-ghost use Rattle.ele_shell.specs.Audit.{row_of};
 
-use ele_core::{DeletedName, DirId, Flat, Key, Name, NoMemory, Target, Usage};
+use ele_core::{DirId, Flat, Key, Name, NoMemory, Target, Usage, deleted_names};
 use std::alloc::Global;
-
-// The row of a name that is given as a triple.
-fn row_of(given: &(DirId, Name, Target)) -> DeletedName
-    ensures { result ≡ row_of given.now }
-{
-    DeletedName {
-        directory: given.0,
-        name: given.1,
-        target: given.2,
-    }
-}
-
-// The rows of names that are given as triples.
-fn rows_of(alloc: Global, names: &[(DirId, Name, Target)]) -> Result<Vec<DeletedName>, NoMemory>
-    ensures { IfOk result (λ rows. rows.items ≡ map row_of names.now) }
-{
-    Ok(names.iter().map(row_of).collect(alloc)?)
-}
 
 /// Returns whether these due keys, restorable names and sums of usage are those of the three scans
 /// of the world. Each name is a triple of its directory, its name and what it last meant. The usage
@@ -47,6 +28,6 @@ pub fn audit(
         × (names.now ≡ map triple_of (restorable world.entry.now))
         × (usage.now ≡ usages world.entry.now))) }
 {
-    let rows = rows_of(alloc, names)?;
+    let rows = deleted_names(alloc, names)?;
     ele_model::audit(due, rows.as_slice(), usage, world)
 }

@@ -16,7 +16,7 @@ use crate::append::head;
 use crate::policy::freed;
 use crate::rows::Rows;
 use ele_fates::put_changed;
-use ele_model::{DirId, FileId, ListOf, Moment, Name, NameList, NameRow, NoMemory, Target};
+use ele_model::{DirId, FileId, Moment, Name, NameList, NameRow, NoMemory, Target, name_list};
 use ele_names::Found;
 
 impl State {
@@ -50,7 +50,7 @@ impl State {
             (λ names. names ≡ listing self.now.world.names directory moment) }
     {
         let names = self.rows.names.list(directory, moment)?;
-        Ok(ListOf::from_vec(names))
+        name_list(self.rows.alloc, names.as_slice())
     }
 
     /// Returns a copy of the rows of names, live and dead, in order of making.

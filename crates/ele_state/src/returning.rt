@@ -1,14 +1,12 @@
 //! The restorable names.
 ghost use Rattle.std.specs.Prelude.{◌≡◌, ◌-◌, IfOk};
-ghost use Rattle.ele_model.specs.Restorable.{may_return, nameless, restorable, returning_name};
+ghost use Rattle.ele_model.specs.Restorable.{may_return, nameless, restorable};
 ghost use Rattle.ele_model.specs.World.{is_held, next_of};
 ghost use Rattle.ele_state.specs.Inside.{world_of, IsSound};
 
 use crate::State;
 use crate::rows::Rows;
-use ele_model::{
-    DeletedName, DeletedNameList, DirId, FileId, ListOf, Name, NoMemory, Target, VersionNo,
-};
+use ele_model::{DeletedNameList, FileId, NoMemory, Target, VersionNo, deleted_names};
 
 // Whether the file's last version is held.
 #[tactic(auto, using(crate::proofs::Words::nat_tests, crate::proofs::Revived::unheld, crate::proofs::Revived::no_next, crate::proofs::Revived::stamped, crate::proofs::ClosedSteps::number_told))]
@@ -55,32 +53,14 @@ impl State {
         }
     }
 
-    // The deleted name, if its last target may have a name again.
-    fn returning(&self, lost: (DirId, Name, Target)) -> Option<DeletedName>
-        ensures { result ≡ returning_name self.now.world lost }
-    {
-        let (directory, name, target) = lost;
-        if self.may_return(&target) {
-            return Some(DeletedName {
-                directory,
-                name,
-                target,
-            });
-        }
-        None
-    }
-
     /// Returns the restorable names, by directory and then by the bytes of the name.
     ///
     /// `NoMemory` if memory is refused.
     pub fn restorable(&self) -> Result<DeletedNameList, NoMemory>
         ensures { IfOk result (λ names. names ≡ restorable self.now.world) }
     {
-        let dead = self.rows.names.dead()?;
-        let names: Vec<DeletedName> = dead
-            .into_iter()
-            .filter_map(|lost| self.returning(lost))
-            .collect(self.rows.alloc)?;
-        Ok(ListOf::from_vec(names))
+        let mut names = self.rows.names.dead()?;
+        names.retain(|lost| self.may_return(&lost.2));
+        deleted_names(self.rows.alloc, names.as_slice())
     }
 }

@@ -1,7 +1,7 @@
 use Rattle.ele_commands.proofs.event.put_event.Goals as goal
 
 pub returns-in-GroupMake-clause-text : goal.returns-in-GroupMake-clause-text
-returns-in-GroupMake-clause-text g c = rw c.in-GroupMake.is (rw c.get-in-GroupMake.ensures at c.put_parts-in-GroupMake.ensures.text)
+returns-in-GroupMake-clause-text g c = rw c.in-GroupMake.is c.put_parts-in-GroupMake.ensures.text
 
 pub returns-in-GroupDrop-clause-text : goal.returns-in-GroupDrop-clause-text
-returns-in-GroupDrop-clause-text g c = rw c.in-GroupDrop.is (rw c.get-in-GroupDrop.ensures at c.put_parts-in-GroupDrop.ensures.text)
+returns-in-GroupDrop-clause-text g c = rw c.in-GroupDrop.is c.put_parts-in-GroupDrop.ensures.text

@@ -1,13 +1,11 @@
-use Rattle.ele_state.proofs.Words.{Ok, Shown, ap, last_dead, ◌∙◌, rules, tests, items_from_collect, YieldsList-from_filter_map, returning_name}
-use Rattle.std.proofs.lemmas.Iterator.Adapters.{YieldsList-from_vec}
-use Rattle.std.specs.declared.alloc.AllocError.{AllocError}
-use Rattle.ele_model.proofs.Newest.{restorable_is}
+use Rattle.ele_state.proofs.Words.{Shown, ap, arith, last_dead, ◌∙◌, rules, tests}
+use Rattle.std.proofs.lemmas.Fn.{filter_same}
+use Rattle.ele_model.specs.Restorable.{may_return}
+use Rattle.ele_model.proofs.Newest.{restorable_kept}
 use Rattle.ele_state.proofs.State.restorable.Goals as goal
 
 pub returns : goal.returns
 returns c =
     let w = c.args.self.now.world in
-    let dead = c.in_ok-dead.dead in
-    c.from_vec.ensures
-    ∙ items_from_collect {E = AllocError} (Ok c.in_ok-names.names) c.in_ok-names.ensures.ran (YieldsList-from_filter_map _ (returning_name w) (YieldsList-from_vec dead.items (cc) (cc)) c.filter_map.ensures.closure (λ x r q k. search (rules, tests)))
-    ∙ restorable_is w dead.items c.in_ok-dead.ensures.sorted (λ directory name. c.in_ok-dead.ensures.found directory name ∙ ap (λ (s : Shown). last_dead s.world.names directory name) c.self.view_is)
+    let kept = filter_same _ (λ lost. may_return w lost.2) _ (λ x b f k. search (rules, tests)) _ _ c.retain.ensures.filtered in
+    grind (arith, c.deleted_names.ensures, c.as_slice.ensures, kept, restorable_kept w c.in_ok-names.names.items c.in_ok-names.ensures.sorted (λ directory name. c.in_ok-names.ensures.found directory name ∙ ap (λ (s : Shown). last_dead s.world.names directory name) c.self.view_is))
