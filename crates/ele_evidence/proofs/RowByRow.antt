@@ -5,7 +5,7 @@ use Rattle.ele_chain.specs.Chain.{chained, hash_line, last_hash}
 use Rattle.ele_evidence.proofs.Texts.{one_more, one_row}
 use Rattle.ele_evidence.specs.Checked.{Begins, IsChecked, IsEnd, IsHashed, IsRight}
 use Rattle.ele_evidence.specs.EvidenceText.{IsRow, end_line, head_row}
-use Rattle.ele_evidence.specs.Verdict.{AsksRow, IsFault, IsHistory, IsWhole, IsWrong, entry_of, line_after}
+use Rattle.ele_evidence.specs.Verdict.{AsksRow, IsFault, IsHistory, IsUnverified, IsWhole, IsWrong, RunsOn, entry_of, line_after}
 use Rattle.ele_evidence.specs.declared.checking.Checked.{Checked}
 use Rattle.ele_evidence.specs.declared.checking.Checked.TheVariants.{End, Right, Wrong}
 use Rattle.ele_evidence.specs.declared.verdict.Fault.{Fault}
@@ -24,7 +24,7 @@ use Rattle.std.proofs.lemmas.Option.{same_Some}
 use Rattle.ele_model.specs.declared.refusal.Stop.{Stop}
 use Rattle.ele_model.specs.declared.refusal.Stop.TheVariants.{HistoryFull, NoMemory}
 use Rattle.std.proofs.Common.{Bor, MatchOption}
-use Rattle.std.specs.Prelude.{slice_get}
+use Rattle.std.specs.Prelude.{OnErr, slice_get}
 
 -- below the first row
 pub begins_none : (limits : Bounds) (text rest line : List ℕ) (past : Past) → past.base ≡ fresh_world limits → past.entries ≡ [] → past.folded ≡ 0 → line ≡ hash_line (head_row limits) → text ≡ head_row limits ++ (hash_line (head_row limits) ++ rest)
@@ -104,6 +104,23 @@ faulty limits text line rest wrong number fault past so history is number_is =
       parts = so.parts ∙ cut.1;
       line_is = number_is cut.0 (so.parts ∙ cut.1);
     }
+
+-- what is true of any result is true at a fault
+pub on_err : {T E : Type 0} (r : Result T E) (P : Type 0) → P → OnErr r P
+on_err (Ok x) P is = tt
+on_err (Err fault) P is = is
+
+-- memory was refused below the rows
+pub unverified : (limits : Bounds) (text line rest : List ℕ) (past after : Past) → Begins limits text past line rest → IsHistory limits past → RunsOn past rest after → IsUnverified limits text after
+unverified limits text line rest past after so history runs = record {
+  past = past;
+  rows = so.rows;
+  rest = rest;
+  history = history;
+  are = so.are;
+  begins = so.parts;
+  runs = runs;
+}
 
 -- no other row is that of an event
 pub no_row : (past : Past) (event : Event) (row rest : List ℕ) → IsRow (entry_of past event) row → ((behind : List ℕ) → rest ≡ row ++ behind → ⊥) → (other behind : List ℕ) → IsRow (entry_of past event) other → rest ≡ other ++ behind → ⊥
@@ -193,3 +210,13 @@ hashed past next event above rest row bytes below (Wrong Answer wrong) asks ran 
 pub stopped : (past next : Past) (stop : Stop) → MayStop past stop next → stop ≡ HistoryFull → IsFull past
 stopped past next HistoryFull may e = may.0
 stopped past next NoMemory may e = absurd cc
+
+-- and any other stop of it leaves the history
+pub stop_leaves : (past next : Past) (stop : Stop) → MayStop past stop next → next ≡ past
+stop_leaves past next HistoryFull may = may.1
+stop_leaves past next NoMemory may = may.1
+
+-- an event that was asked for was run, or not
+pub runs_on : (past next : Past) (event : Event) (rest : List ℕ) → AsksRow rest event → (next ≡ past) ⊎ (next ≡ recorded past event) → RunsOn past rest next
+runs_on past next event rest asks (inl same) = inl same
+runs_on past next event rest asks (inr ran) = inr (event, asks, ran)

@@ -1,5 +1,5 @@
 -- What is true of a text that may be the evidence of a history.
-use Rattle.std.specs.Prelude.{◌≡◌, ◌≢◌, ℕ, ◌+◌, ◌≤◌, List, [], ◌∷◌, ◌++◌, codes, length}
+use Rattle.std.specs.Prelude.{◌≡◌, ◌≢◌, ◌⊎◌, ℕ, ◌+◌, ◌≤◌, List, [], ◌∷◌, ◌++◌, codes, length}
 use Rattle.std.specs.List.{AllByRecursion, AllZip}
 use Rattle.memchr.specs.Find.{is_byte, places}
 use Rattle.ele_chain.specs.Chain.{chained, hash_line, last_hash}
@@ -9,7 +9,7 @@ use Rattle.ele_evidence.specs.declared.verdict.Fault.TheVariants.{Answer, Hash, 
 use Rattle.ele_evidence.specs.declared.verdict.Verdict.{Verdict}
 use Rattle.ele_evidence.specs.declared.verdict.Verdict.TheVariants.{NoHead, Whole, Wrong}
 use Rattle.ele_history.specs.Legal.{IsLegal}
-use Rattle.ele_history.specs.Past.{IsFull, Past, events_of, reply_to}
+use Rattle.ele_history.specs.Past.{IsFull, Past, events_of, recorded, reply_to}
 use Rattle.ele_model.specs.Bounds.{Bounds}
 use Rattle.ele_model.specs.Run.{IsEvent}
 use Rattle.ele_model.specs.World.{fresh_world}
@@ -81,3 +81,17 @@ abbrev pub IsVerdict : Bounds → List ℕ → Verdict → Type 0
 IsVerdict limits text (Whole count last) = IsWhole limits text count last
 IsVerdict limits text NoHead = (rest : List ℕ) → text ≢ head_row limits ++ (hash_line (head_row limits) ++ rest)
 IsVerdict limits text (Wrong line fault) = IsWrong limits text line fault
+
+-- no event more was run, or the one that the rest asks for
+abbrev pub RunsOn : Past → List ℕ → Past → Type 0
+RunsOn past rest after = (after ≡ past) ⊎ ((event : Event) × AsksRow rest event × (after ≡ recorded past event))
+
+-- memory was refused below the rows of a history, with which the text begins: these events were run, and maybe the one that the rest asks for
+pub record IsUnverified (limits : Bounds) (text : List ℕ) (after : Past) : Type 0 where
+  pub past : Past
+  pub rows : List (List ℕ)
+  pub rest : List ℕ
+  pub history : IsHistory limits past
+  pub are : AllZip IsRow past.entries rows
+  pub begins : text ≡ chained [] (head_row limits ∷ rows) ++ rest
+  pub runs : RunsOn past rest after

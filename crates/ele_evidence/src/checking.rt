@@ -1,16 +1,16 @@
 //! Whether a text is the evidence of a history. A contract sees the text, the history that its
 //! events make when they are run again, and the verdict.
-ghost use Rattle.std.specs.Prelude.{◌≡◌, ◌≢◌, ◌⊎◌, ◌++◌, [], IfErr, IfOk, List, MatchOption, Ok, Err, length, ℕ};
+ghost use Rattle.std.specs.Prelude.{◌≡◌, ◌≢◌, ◌⊎◌, ◌++◌, [], IfErr, IfOk, List, MatchOption, OnErr, Ok, Err, length, ℕ};
 ghost use Rattle.ele_evidence.specs.Checked.{AsksFirst, Begins, IsChecked, IsEnd, IsHashed};
-ghost use Rattle.ele_evidence.specs.EvidenceText.{IsRow};
-ghost use Rattle.ele_evidence.specs.Verdict.{AsksRow, IsHistory, IsVerdict, entry_of, line_after};
+ghost use Rattle.ele_evidence.specs.EvidenceText.{IsRow, head_row};
+ghost use Rattle.ele_evidence.specs.Verdict.{AsksRow, IsHistory, IsUnverified, IsVerdict, RunsOn, entry_of, line_after};
 ghost use Rattle.ele_history.specs.Past.{IsFull, Past, recorded};
 ghost use Rattle.ele_history.specs.Reply.{MayRecord};
 ghost use Rattle.ele_model.specs.Bounds.{Bounds};
 ghost use Rattle.ele_model.specs.World.{fresh_world};
 ghost use Rattle.ele_model.specs.declared.event.Event.{Event};
 
-use crate::row::{end_line, entry_row, head_row};
+use crate::row::{end_line, entry_row};
 use crate::verdict::{Fault, Verdict};
 use ele_chain::HashLine;
 use ele_history::History;
@@ -32,23 +32,28 @@ pub(crate) enum Checked<'t> {
 }
 
 /// Returns whether a text is the evidence of a history that began in the fresh world with the limits
-/// of this one, by running its events again in this one.
+/// of this one, by running its events again in this one. `head` is the first row for these limits.
 ///
-/// `NoMemory` if memory is refused.
+/// `NoMemory` if memory is refused to an event or its row, or to the last line: the text begins with
+/// the rows of a history then, whose events were run, and maybe the next one.
 /// Cost: that of the events, and of their text; holds one row. The history has the entries then, up
 /// to the first line that is wrong.
 pub fn verify<C: Step>(
     alloc: Global,
     history: &mut History<C>,
+    head: &[u8],
     text: &[u8],
 ) -> Result<Verdict, NoMemory>
     requires empty { history.old.entries ≡ [] }
     requires untrimmed { history.old.folded ≡ 0 }
-    ensures { IfOk result (IsVerdict history.old.base.limits text.now) }
+    requires head { head.now ≡ head_row history.old.base.limits }
+    ensures ok { IfOk result (IsVerdict history.old.base.limits text.now) }
+    ensures err { OnErr result (IsUnverified history.old.base.limits text.now history.new) }
 {
-    let head = head_row(alloc, &history.base().limits)?;
-    let line = HashLine::none().below(head.as_slice());
-    match behind_both(text, head.as_slice(), line.bytes()) {
+    // For the proof: the history begins in the fresh world.
+    history.base();
+    let line = HashLine::none().below(head);
+    match behind_both(text, head, line.bytes()) {
         Some(rest) => verify_rows(alloc, history, text, line, rest),
         None => Ok(Verdict::NoHead),
     }
@@ -83,7 +88,8 @@ fn verify_rows<C: Step>(
     below: &[u8],
 ) -> Result<Verdict, NoMemory>
     requires begins { Begins history.old.base.limits text.now history.old first below.now }
-    ensures { IfOk result (IsVerdict history.old.base.limits text.now) }
+    ensures ok { IfOk result (IsVerdict history.old.base.limits text.now) }
+    ensures err { OnErr result (IsUnverified history.old.base.limits text.now history.new) }
 {
     let mut line = first;
     let mut rest = below;
@@ -102,6 +108,7 @@ fn verify_rows<C: Step>(
         }
     }
     // No text has so many rows.
+    lemma_is_history(history);
     Err(NoMemory)
 }
 
@@ -132,8 +139,9 @@ fn check_row<'t, C: Step>(
     above: &HashLine,
     rest: &'t [u8],
 ) -> Result<Checked<'t>, NoMemory>
-    ensures { IfOk result
+    ensures ok { IfOk result
         (λ checked. IsChecked history.old above.now rest.now checked history.new) }
+    ensures err { OnErr result (RunsOn history.old rest.now history.new) }
 {
     match event_before(alloc, rest) {
         Ok(event) => check_event(alloc, history, above, event, rest),
@@ -197,8 +205,9 @@ fn check_event<'t, C: Step>(
     rest: &'t [u8],
 ) -> Result<Checked<'t>, NoMemory>
     requires { AsksRow rest.now event }
-    ensures { IfOk result
+    ensures ok { IfOk result
         (λ checked. IsChecked history.old above.now rest.now checked history.new) }
+    ensures err { OnErr result (RunsOn history.old rest.now history.new) }
 {
     let row = match answered_row(alloc, history, event) {
         Ok(row) => row,
@@ -231,6 +240,8 @@ fn answered_row<C: Step>(
     ensures ok { IfOk result (λ row. (history.new ≡ recorded history.old event)
         × IsRow (entry_of history.old event) row.items) }
     ensures full { IfErr result (λ stop. stop ≡ Stop.HistoryFull → IsFull history.old) }
+    ensures err { OnErr result ((history.new ≡ history.old)
+        ⊎ (history.new ≡ recorded history.old event)) }
 {
     match run_event(history, event) {
         Ok(()) => newest_row(alloc, history),

@@ -8,5 +8,6 @@ mod text;
 mod verdict;
 
 pub use checking::{line_of, verify};
+pub use row::head_row;
 pub use text::{evidence, is_evidence, put_evidence};
 pub use verdict::{Fault, Verdict, verdict_line};

@@ -13,8 +13,9 @@ use ele_printer::put_answer;
 use std::alloc::Global;
 use std::io::Write;
 
-/// Returns the first row of a text. `NoMemory` if memory is refused.
-pub(crate) fn head_row(alloc: Global, limits: &Limits) -> Result<Vec<u8>, NoMemory>
+/// Returns the first row of a text, which has the limits of the world in which its history began.
+/// `NoMemory` if memory is refused.
+pub fn head_row(alloc: Global, limits: &Limits) -> Result<Vec<u8>, NoMemory>
     ensures { IfOk result (λ row. row.items ≡ head_row limits.now) }
 {
     let mut row = Vec::new(alloc);

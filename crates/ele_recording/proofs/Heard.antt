@@ -3,13 +3,12 @@ use Rattle.std.proofs.Common.{List, None, Some, [], ap, append-nil, append_assoc
 use Rattle.ele_lists.proofs.Alls.{all-append}
 use Rattle.ele_lists.proofs.Taken.{cut-at}
 use Rattle.ele_evidence.specs.Verdict.{line_after}
-use Rattle.ele_history.specs.Past.{Past, fresh}
-use Rattle.ele_model.specs.Bounds.{Bounds}
+use Rattle.ele_history.specs.Past.{Past}
 use Rattle.std.specs.Prelude.{Err}
 use Rattle.ele_recording.specs.Heard.{FailsToHear, HearsAll}
 use Rattle.ele_recording.specs.Recording.{AreHeard, HasHeard, Hears, IsCut, IsRecording, IsUnanswered, is_answered}
 use Rattle.ele_recording.specs.declared.recording.Unrecorded.{Unrecorded}
-use Rattle.ele_recording.specs.declared.recording.Unrecorded.TheVariants.{Cut, Line, NoMemory, Trimmed}
+use Rattle.ele_recording.specs.declared.recording.Unrecorded.TheVariants.{Cut, Line, Trimmed}
 use Rattle.ele_runs.specs.Lines.{IsUnbroken, whole_line, whole_lines}
 use Rattle.ele_runs.specs.declared.said.Said.{Said}
 use Rattle.memchr.specs.Find.{IsFirstByte, is_byte}
@@ -90,23 +89,20 @@ cut start script rest number past so none some number_is = record {
 }
 
 -- the first line that wasn't answered is why there is no recording
-pub not_heard : (limits : Bounds) (script : List ℕ) (why : Unrecorded) → FailsToHear (fresh limits) script why → IsRecording limits script (Err why)
-not_heard limits script (Line number said) is = is
-not_heard limits script NoMemory is = absurd is
-not_heard limits script (Cut number) is = absurd is
-not_heard limits script Trimmed is = absurd is
+pub not_heard : (start : Past) (script : List ℕ) (why : Unrecorded) → FailsToHear start script why → IsRecording start script (Err why)
+not_heard start script (Line number said) is = is
+not_heard start script (Cut number) is = absurd is
+not_heard start script Trimmed is = absurd is
 
 some_bytes : (rest : List ℕ) → (length rest == 0) ≡ false → rest ≢ []
 some_bytes [] some = λ e. absurd cc
 some_bytes (byte ∷ rest) some = λ e. absurd cc
 
 -- what follows the last line feed is a line that was cut off
-pub cut_off : (limits : Bounds) (start : Past) (script rest : List ℕ) (number : ℕ) (past : Past) → start ≡ fresh limits → HearsAll start script rest past → (length rest == 0) ≡ false
-    → ((right : List ℕ) → script ≡ right ++ rest → number ≡ line_after right) → IsCut (fresh limits) script number
-cut_off limits start script rest number past is heard some number_is =
-    subst (λ (from : Past). IsCut from script number) is (cut start script rest number past heard.heard heard.last (some_bytes rest some) number_is)
+pub cut_off : (start : Past) (script rest : List ℕ) (number : ℕ) (past : Past) → HearsAll start script rest past → (length rest == 0) ≡ false → ((right : List ℕ) → script ≡ right ++ rest → number ≡ line_after right) → IsCut start script number
+cut_off start script rest number past heard some number_is = cut start script rest number past heard.heard heard.last (some_bytes rest some) number_is
 
 -- nothing follows it
-pub at_end : (limits : Bounds) (start : Past) (script rest : List ℕ) (past : Past) → start ≡ fresh limits → HearsAll start script rest past → (length rest == 0) ≡ true → HasHeard (fresh limits) script past []
-at_end limits start script [] past is heard none = subst (λ (from : Past). HasHeard from script past []) is heard.heard
-at_end limits start script (byte ∷ rest) past is heard none = absurd (grind (arith, nat_tests))
+pub at_end : (start : Past) (script rest : List ℕ) (past : Past) → HearsAll start script rest past → (length rest == 0) ≡ true → HasHeard start script past []
+at_end start script [] past heard none = heard.heard
+at_end start script (byte ∷ rest) past heard none = absurd (grind (arith, nat_tests))

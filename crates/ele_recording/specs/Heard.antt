@@ -3,7 +3,7 @@ use Rattle.std.specs.Prelude.{◌≡◌, ℕ, true, false, List, None, Result, O
 use Rattle.ele_history.specs.Past.{Past}
 use Rattle.ele_recording.specs.Recording.{HasHeard, Hears, IsUnanswered, is_answered}
 use Rattle.ele_recording.specs.declared.recording.Unrecorded.{Unrecorded}
-use Rattle.ele_recording.specs.declared.recording.Unrecorded.TheVariants.{Cut, Line, NoMemory, Trimmed}
+use Rattle.ele_recording.specs.declared.recording.Unrecorded.TheVariants.{Cut, Line, Trimmed}
 use Rattle.ele_runs.specs.declared.said.Said.{Said}
 use Rattle.memchr.specs.Find.{IsFirstByte, is_byte}
 
@@ -20,6 +20,5 @@ pub record HearsAll (start : Past) (script rest : List ℕ) (past : Past) : Type
 -- the first line that wasn't answered
 abbrev pub FailsToHear : Past → List ℕ → Unrecorded → Type 0
 FailsToHear start script (Line number said) = IsUnanswered start script number said
-FailsToHear start script NoMemory = ⊥
 FailsToHear start script (Cut number) = ⊥
 FailsToHear start script Trimmed = ⊥

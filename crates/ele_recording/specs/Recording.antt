@@ -2,11 +2,10 @@
 use Rattle.std.specs.Prelude.{◌≡◌, ◌≢◌, ℕ, Bool, true, false, List, [], ◌∷◌, ◌++◌, Result, Ok, Err}
 use Rattle.std.specs.List.{AllByRecursion}
 use Rattle.ele_evidence.specs.Verdict.{line_after}
-use Rattle.ele_history.specs.Past.{Past, fresh}
-use Rattle.ele_model.specs.Bounds.{Bounds}
+use Rattle.ele_history.specs.Past.{Past}
 use Rattle.ele_model.specs.declared.pass.PassEnd.TheVariants as pass
 use Rattle.ele_recording.specs.declared.recording.Unrecorded.{Unrecorded}
-use Rattle.ele_recording.specs.declared.recording.Unrecorded.TheVariants.{Cut, Line, NoMemory, Trimmed}
+use Rattle.ele_recording.specs.declared.recording.Unrecorded.TheVariants.{Cut, Line, Trimmed}
 use Rattle.ele_run_options.specs.declared.options.RunOptions.{RunOptions}
 use Rattle.ele_runs.specs.Kept.{Recorded}
 use Rattle.ele_runs.specs.LineLength.{line_unless_long}
@@ -63,10 +62,9 @@ pub record IsCut (start : Past) (script : List ℕ) (number : ℕ) : Type 0 wher
   pub cut : IsUnbroken last
   pub number_is : number ≡ line_after (whole_lines before.lines)
 
--- all lines were answered and led to this history, which no trim folded; or why not
-abbrev pub IsRecording : Bounds → List ℕ → Result Past Unrecorded → Type 0
-IsRecording limits script (Ok past) = HasHeard (fresh limits) script past [] × (past.folded ≡ 0)
-IsRecording limits script (Err (Line number said)) = IsUnanswered (fresh limits) script number said
-IsRecording limits script (Err (Cut number)) = IsCut (fresh limits) script number
-IsRecording limits script (Err Trimmed) = (past : Past) × HasHeard (fresh limits) script past [] × (past.folded ≢ 0)
-IsRecording limits script (Err NoMemory) = Unit {0}
+-- all lines were answered and led from one history to this one, of which no trim folded entries; or why not
+abbrev pub IsRecording : Past → List ℕ → Result Past Unrecorded → Type 0
+IsRecording start script (Ok past) = HasHeard start script past [] × (past.folded ≡ 0)
+IsRecording start script (Err (Line number said)) = IsUnanswered start script number said
+IsRecording start script (Err (Cut number)) = IsCut start script number
+IsRecording start script (Err Trimmed) = (past : Past) × HasHeard start script past [] × (past.folded ≢ 0)

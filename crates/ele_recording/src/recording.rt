@@ -5,7 +5,7 @@ ghost use Rattle.ele_recording.specs.Recording.{IsRecording, is_answered, record
 
 use ele_evidence::line_of;
 use ele_history::History;
-use ele_model::{Explain, FromFlat, Limits, PassEnd};
+use ele_model::{Explain, FromFlat, PassEnd};
 use ele_run_options::RunOptions;
 use ele_runs::{Said, hear_kept, kept_line};
 use memchr::memchr;
@@ -14,8 +14,6 @@ use std::alloc::Global;
 /// Why a script makes no history that can be handed over.
 #[derive(Drop)]
 pub enum Unrecorded {
-    /// Memory for the start was refused.
-    NoMemory,
     /// What the line with this number was answered: it is no command, or it was stopped.
     Line(u64, Said),
     /// The line with this number is the last one, and has no line feed.
@@ -82,23 +80,21 @@ fn answer_lines<'s, C: Explain + FromFlat>(
     Ok(rest)
 }
 
-/// Returns the history that the lines of a script make from the fresh world with these limits on.
-/// Empty lines and remarks, which begin with `#`, make no entry. A refused event does.
+/// Returns the history that the lines of a script make of this one. Empty lines and remarks, which
+/// begin with `#`, make no entry. A refused event does.
 ///
-/// `Line` at the first line that is no command or was stopped, `Cut` if the last line has no line
-/// feed, `Trimmed` if a trim folded an entry, and `NoMemory` if memory for the start is refused.
+/// `Line` at the first line that is no command or was stopped, also for want of memory, `Cut` if the
+/// last line has no line feed, and `Trimmed` if entries are folded.
 /// Cost: that of the lines.
 #[tactic(auto, using(crate::proofs::Heard::not_heard))]
 pub fn record<C: Explain + FromFlat>(
     alloc: Global,
-    limits: Limits,
+    start: History<C>,
     script: &[u8],
 ) -> Result<History<C>, Unrecorded>
-    ensures { IsRecording limits script.now result }
+    ensures { IsRecording start script.now result }
 {
-    let Ok(mut history) = History::<C>::new(alloc, limits) else {
-        return Err(Unrecorded::NoMemory);
-    };
+    let mut history = start;
     let rest = match answer_lines(alloc, script, &mut history) {
         Ok(rest) => rest,
         Err(why) => return Err(why),

@@ -3,11 +3,13 @@
 ghost use Rattle.std.specs.Prelude.{◌≡◌, ◌++◌, [], codes, IfErr, IfOk, List, None, OnOk, ℕ};
 ghost use Rattle.std.specs.Result.{result_err};
 ghost use Rattle.std.specs.Io.KnownBytes.{Consumes, IsAtEnd};
+ghost use Rattle.ele_evidence.specs.EvidenceText.{head_row};
 ghost use Rattle.ele_evidence.specs.VerdictText.{verdict_text};
+ghost use Rattle.ele_history.specs.Past.{fresh};
+ghost use Rattle.ele_model.specs.Bounds.{largest_bounds};
 ghost use Rattle.ele_output.specs.Outlet.{Reports};
 ghost use Rattle.ele_output.specs.Prints.{Prints, outlet};
 ghost use Rattle.ele_runs.specs.Said.{IsText};
-ghost use Rattle.ele_words.specs.Status.{fault_line, status_after};
 ghost use Rattle.ele_words.specs.Evidence.{
   EvidenceEnds,
   Evidences,
@@ -18,23 +20,22 @@ ghost use Rattle.ele_words.specs.Evidence.{
   Verifies,
   VerifyEnds,
   line_before,
-  unrecorded_status,
 };
 
 use crate::failure::{Failure, status};
 use crate::program::{tell, write_bytes};
-use ele_evidence::{Verdict, evidence, verdict_line, verify};
+use ele_evidence::{Verdict, evidence, head_row, verdict_line, verify};
 use ele_history::History;
 use ele_model::{Explain, FromFlat, Limits, Step};
 use ele_output::{Printer, put_with_number};
 use ele_recording::{Unrecorded, record};
 use ele_runs::{Said, ShellFault};
-use ele_script::put_named;
 use std::alloc::Global;
 use std::io::{ErrorKind, Read, Write};
 
 /// Runs the script that the reader gives under the largest limits, and writes its history as
-/// evidence. Reports to `errors` why there is none. Returns the exit status.
+/// evidence. Reports to `errors` why there is none. Returns the exit status. If memory for the start is
+/// refused, nothing is read.
 pub(crate) fn run_evidence<C: Explain + FromFlat, R: Read, W: Write, E: Write>(
     alloc: Global,
     reader: &mut R,
@@ -45,14 +46,18 @@ pub(crate) fn run_evidence<C: Explain + FromFlat, R: Read, W: Write, E: Write>(
         (W.contents writer.old) (W.contents writer.new)
         (outlet E.contents errors.old) (outlet E.contents errors.new) result }
 {
+    let Ok(start) = History::<C>::new(alloc, Limits::largest()) else {
+        return tell(Some(ShellFault::NoMemory), errors);
+    };
     match read_all(alloc, reader) {
-        Ok(script) => tell_recorded::<C, W, E>(alloc, script.as_slice(), writer, errors),
+        Ok(script) => tell_recorded(alloc, start, script.as_slice(), writer, errors),
         Err(fault) => tell(Some(fault), errors),
     }
 }
 
 /// Verifies the text that the reader gives, under the largest limits. Writes how much it shows, or
-/// reports to `errors` what is wrong with it. Returns the exit status.
+/// reports to `errors` what is wrong with it. Returns the exit status. If memory for the start is
+/// refused, nothing is read.
 pub(crate) fn run_verify<C: Step, R: Read, W: Write, E: Write>(
     alloc: Global,
     reader: &mut R,
@@ -63,8 +68,21 @@ pub(crate) fn run_verify<C: Step, R: Read, W: Write, E: Write>(
         (W.contents writer.old) (W.contents writer.new)
         (outlet E.contents errors.old) (outlet E.contents errors.new) result }
 {
+    let Ok(mut history) = History::<C>::new(alloc, Limits::largest()) else {
+        return tell(Some(ShellFault::NoMemory), errors);
+    };
+    let Ok(head) = head_row(alloc, &Limits::largest()) else {
+        return tell(Some(ShellFault::NoMemory), errors);
+    };
     match read_all(alloc, reader) {
-        Ok(text) => tell_verified::<C, W, E>(alloc, text.as_slice(), writer, errors),
+        Ok(text) => tell_verified(
+            alloc,
+            &mut history,
+            head.as_slice(),
+            text.as_slice(),
+            writer,
+            errors,
+        ),
         Err(fault) => tell(Some(fault), errors),
     }
 }
@@ -85,17 +103,19 @@ pub(crate) fn read_all<R: Read>(alloc: Global, reader: &mut R) -> Result<Vec<u8>
     }
 }
 
-// Records a script, and writes its evidence. Returns the exit status.
+// Records a script from this start on, and writes its evidence. Returns the exit status.
 fn tell_recorded<C: Explain + FromFlat, W: Write, E: Write>(
     alloc: Global,
+    start: History<C>,
     script: &[u8],
     writer: &mut W,
     errors: &mut Printer<'_, E>,
 ) -> u8
+    requires { start ≡ fresh largest_bounds }
     ensures { Evidences (W.contents writer.old) (W.contents writer.new)
         (outlet E.contents errors.old) (outlet E.contents errors.new) result script.now }
 {
-    match record::<C>(alloc, Limits::largest(), script) {
+    match record(alloc, start, script) {
         Ok(history) => tell(write_evidence(alloc, &history, writer).err(), errors),
         Err(why) => tell_unrecorded(&why, errors),
     }
@@ -118,23 +138,13 @@ fn write_evidence<C: Step, W: Write>(
 
 // Reports why a script makes no history that is handed over. Returns the exit status.
 fn tell_unrecorded<E: Write>(why: &Unrecorded, errors: &mut Printer<'_, E>) -> u8
-    ensures status { result ≡ unrecorded_status why.now }
+    ensures status { result ≡ 2 }
     ensures told { (text : List ℕ) × IsUnrecordedText why.now text
         × Reports (outlet E.contents errors.old) (outlet E.contents errors.new) text }
 {
     put_unrecorded(why, errors);
     errors.flush();
-    status(failure_of(why))
-}
-
-// Which failure it is that a script makes no history that is handed over.
-fn failure_of(why: &Unrecorded) -> Failure
-    ensures { status_after result ≡ unrecorded_status why.now }
-{
-    match why {
-        Unrecorded::NoMemory => Failure::Fault(ShellFault::NoMemory),
-        Unrecorded::Line(_, _) | Unrecorded::Cut(_) | Unrecorded::Trimmed => Failure::BadInput,
-    }
+    status(Failure::BadInput)
 }
 
 // Prints which line makes no history that is handed over, and why.
@@ -143,21 +153,12 @@ fn put_unrecorded<E: Write>(why: &Unrecorded, errors: &mut Printer<'_, E>)
         × Prints E.contents errors.old errors.new text }
 {
     match why {
-        Unrecorded::NoMemory => put_no_memory(errors),
         Unrecorded::Line(number, said) => put_unanswered(*number, said, errors),
         Unrecorded::Cut(number) => put_cut(*number, errors),
         Unrecorded::Trimmed => {
             errors.put(b"elephant: a trim folded events, so evidence can't show them\n");
         }
     }
-}
-
-// Prints the line of the fault.
-fn put_no_memory<E: Write>(errors: &mut Printer<'_, E>)
-    ensures { Prints E.contents errors.old errors.new (fault_line ShellFault.NoMemory) }
-{
-    let fault = ShellFault::NoMemory;
-    put_named(b"elephant:", fault.number(), fault.name(), errors);
 }
 
 // Prints what the line with this number was answered.
@@ -186,20 +187,21 @@ fn put_line_before<E: Write>(number: u64, errors: &mut Printer<'_, E>)
     errors.put(b": ");
 }
 
-// Verifies a text, and tells the verdict. Returns the exit status.
+// Verifies a text, below this first row, and tells the verdict. Returns the exit status.
 fn tell_verified<C: Step, W: Write, E: Write>(
     alloc: Global,
+    history: &mut History<C>,
+    head: &[u8],
     text: &[u8],
     writer: &mut W,
     errors: &mut Printer<'_, E>,
 ) -> u8
+    requires start { history.old ≡ fresh largest_bounds }
+    requires head { head.now ≡ head_row largest_bounds }
     ensures { Verifies (W.contents writer.old) (W.contents writer.new)
         (outlet E.contents errors.old) (outlet E.contents errors.new) result text.now }
 {
-    let Ok(mut history) = History::<C>::new(alloc, Limits::largest()) else {
-        return tell(Some(ShellFault::NoMemory), errors);
-    };
-    let Ok(verdict) = verify(alloc, &mut history, text) else {
+    let Ok(verdict) = verify(alloc, history, head, text) else {
         return tell(Some(ShellFault::NoMemory), errors);
     };
     let Ok(line) = verdict_line(alloc, &verdict) else {

@@ -4,8 +4,8 @@ use Rattle.ele_recording.proofs.recording.record.Goals as goal
 
 pub returns-then-not-is_empty : goal.returns-then-not-is_empty
 returns-then-not-is_empty g c =
-    cut_off c.args.limits c.in-Ok.history c.args.script.now c.in-Ok-answer_lines.rest.now c.line_of.result c.answer_lines.new.history c.in-Ok.ensures c.in-Ok-answer_lines.ensures.heard (sym c.is_empty.ensures ∙ c.if-not-is_empty.true) c.line_of.ensures
+    cut_off c.args.start c.args.script.now c.in-Ok.rest.now c.line_of.result c.answer_lines.new.history c.in-Ok.ensures.heard (sym c.is_empty.ensures ∙ c.if-not-is_empty.true) c.line_of.ensures
 
 pub returns-then-folded-ne0 : goal.returns-then-folded-ne0
 returns-then-folded-ne0 g c =
-    (c.answer_lines.new.history, at_end c.args.limits c.in-Ok.history c.args.script.now c.in-Ok-answer_lines.rest.now c.answer_lines.new.history c.in-Ok.ensures c.in-Ok-answer_lines.ensures.heard (sym c.is_empty.ensures ∙ c.if-not-is_empty.false), rw c.folded.ensures at c.if-folded-ne0.true)
+    (c.answer_lines.new.history, at_end c.args.start c.args.script.now c.in-Ok.rest.now c.answer_lines.new.history c.in-Ok.ensures.heard (sym c.is_empty.ensures ∙ c.if-not-is_empty.false), rw c.folded.ensures at c.if-folded-ne0.true)

@@ -2,9 +2,6 @@ use Rattle.std.proofs.Common.{refl, ◌++◌}
 use Rattle.ele_words.specs.Evidence.{line_before}
 use Rattle.ele_words.proofs.evidence.put_unrecorded.Goals as goal
 
-pub returns-in-NoMemory : goal.returns-in-NoMemory
-returns-in-NoMemory g c = rw c.in-NoMemory.is (_, refl, c.put_no_memory.ensures)
-
 pub returns-in-Line : goal.returns-in-Line
 returns-in-Line g c =
     rw c.in-Line.is (line_before c.in-Line.number ++ c.put_unanswered.ensures.0, (c.put_unanswered.ensures.0, c.put_unanswered.ensures.1, refl), c.put_unanswered.ensures.2)
