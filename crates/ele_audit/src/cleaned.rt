@@ -36,32 +36,11 @@ pub(crate) fn cleaned(alloc: Global, world: Flat, key: Key) -> Result<Flat, NoMe
 fn without_version(world: Flat, file: FileId, number: VersionNo) -> Flat
     ensures { result ≡ after_change world (Take file number) }
 {
-    let Flat {
-        now,
-        directories,
-        files,
-        names,
-        versions,
-        drafts,
-        handles,
-        groups,
-        made,
-        limits,
-    } = world;
-    let mut rows = versions.into_vec();
+    let mut world = world;
+    let mut rows = world.versions.into_vec();
     take_version(&mut rows, file, number);
-    Flat {
-        now,
-        directories,
-        files,
-        names,
-        versions: ListOf::from_vec(rows),
-        drafts,
-        handles,
-        groups,
-        made,
-        limits,
-    }
+    world.versions = ListOf::from_vec(rows);
+    world
 }
 
 // Removes the first row of the version, if there is one. The others keep their order.
@@ -119,35 +98,16 @@ fn has_draft(rows: &[DraftRow], file: FileId) -> bool
 fn without_file(alloc: Global, world: Flat, file: FileId) -> Result<Flat, NoMemory>
     ensures { IfOk result (λ left. left ≡ without_file world file) }
 {
-    let Flat {
-        now,
-        directories,
-        files,
-        names,
-        versions,
-        drafts,
-        handles,
-        groups,
-        made,
-        limits,
-    } = world;
-    let groups = forgotten(alloc, groups.into_vec(), file)?;
-    let mut files = files.into_vec();
+    let mut world = world;
+    let groups = forgotten(alloc, world.groups.into_vec(), file)?;
+    world.groups = ListOf::from_vec(groups);
+    let mut files = world.files.into_vec();
     take_file(&mut files, file);
-    let mut names = names.into_vec();
+    world.files = ListOf::from_vec(files);
+    let mut names = world.names.into_vec();
     take_names(&mut names, file);
-    Ok(Flat {
-        now,
-        directories,
-        files: ListOf::from_vec(files),
-        names: ListOf::from_vec(names),
-        versions,
-        drafts,
-        handles,
-        groups: ListOf::from_vec(groups),
-        made,
-        limits,
-    })
+    world.names = ListOf::from_vec(names);
+    Ok(world)
 }
 
 // Removes the first row of the file, if there is one. The others keep their order.

@@ -75,20 +75,20 @@ fn unless_changed(world: Flat, reply: &Reply) -> Option<Flat>
 fn leaves(reply: &Reply) -> bool
     ensures { result ≡ leaves reply.now }
 {
-    match reply {
+    matches!(
+        reply,
         Reply::Nothing
-        | Reply::Refused(_)
-        | Reply::Bytes(_)
-        | Reply::FileStat(_)
-        | Reply::DirStat(_)
-        | Reply::Rows(_)
-        | Reply::NameList(_)
-        | Reply::RestoreList(_)
-        | Reply::DueList(_)
-        | Reply::UsageList(_)
-        | Reply::GroupList(_) => true,
-        _ => false,
-    }
+            | Reply::Refused(_)
+            | Reply::Bytes(_)
+            | Reply::FileStat(_)
+            | Reply::DirStat(_)
+            | Reply::Rows(_)
+            | Reply::NameList(_)
+            | Reply::RestoreList(_)
+            | Reply::DueList(_)
+            | Reply::UsageList(_)
+            | Reply::GroupList(_)
+    )
 }
 
 // The world with that moment.
