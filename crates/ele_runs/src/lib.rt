@@ -20,5 +20,5 @@ pub use keep::Keep;
 pub use line_buffer::{LineBuffer, kept_line};
 pub use note::{put_why, why_bad, why_cut};
 pub use said::{Said, explain_alone, hear_kept, last_reply};
-pub use script::{run_in, run_over};
+pub use script::{run_in, run_over, run_to_exit};
 pub use tally::{BadLine, Tally};

@@ -22,7 +22,7 @@ use crate::system_reason::{SystemReason, report_error};
 use ele_invocation::Invocation;
 use ele_model::{Audit, Explain, FromFlat, Limits};
 use ele_output::{Printer, write_all};
-use ele_runs::{RunEnd, RunOptions, ShellFault, run_in};
+use ele_runs::{RunEnd, RunOptions, ShellFault, run_to_exit};
 use ele_script::put_named;
 use std::alloc::Global;
 use std::io;
@@ -45,7 +45,8 @@ pub(crate) fn after_flush<T: Drop>(
     }
 }
 
-// Runs a script, and flushes the writer however the run ended.
+// Runs a script, and flushes the writer however the run ended. The program ends after it, so the
+// run's memory is left to the system.
 fn run_script<C: Explain + FromFlat, R: Read, W: Write, E: Write>(
     alloc: Global,
     options: RunOptions,
@@ -58,7 +59,7 @@ fn run_script<C: Explain + FromFlat, R: Read, W: Write, E: Write>(
         (R.remaining reader.old) (R.remaining reader.new)
         (W.contents writer.old) (W.contents writer.new) (outlet E.contents errors.new) result }
 {
-    let ran = run_in::<C, R, W, E>(options, alloc, reader, writer, errors, limits);
+    let ran = run_to_exit::<C, R, W, E>(options, alloc, reader, writer, errors, limits);
     let flushed = writer.flush();
     after_flush(ran, &flushed)
 }
