@@ -3,9 +3,11 @@
 #![tactic(auto)]
 
 mod fault;
+mod listed;
 mod walk;
 
 pub use ele_model::Target;
-pub use ele_path::{Path, PathAt, PathAtFault, PathFault, Tag, TaggedPath};
+pub use ele_path::{PathAt, PathAtFault, PathFault, Tag};
 pub use fault::WalkFault;
+pub use listed::{Path, TaggedPath};
 pub use walk::{parent_now, resolve_at, resolve_now};

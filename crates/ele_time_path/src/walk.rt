@@ -7,10 +7,10 @@ ghost use Rattle.ele_model.specs.WalkAt.{walk_at};
 ghost use Rattle.ele_time_path.specs.Faults.{IsOfWalk, refusal_of};
 
 use crate::fault::WalkFault;
+use crate::listed::Path;
 use ele_model::{Refusal, Target};
 use ele_moment::{DirId, Moment, Name};
 use ele_names::Names;
-use ele_path::Path;
 
 /// Returns what the path leads to by the live names.
 ///
@@ -20,7 +20,7 @@ pub fn resolve_now(names: &Names, path: &Path) -> Result<Target, WalkFault>
     ensures { result_map_both (λ target. target) refusal_of result
         ≡ walk_now names.now path.now }
 {
-    with_fault(ele_names::resolve_now(names, path))
+    with_fault(ele_names::resolve_now(names, path.kept()))
 }
 
 /// Returns what the path led to at the moment `t`.
@@ -32,7 +32,7 @@ pub fn resolve_at(names: &Names, path: &Path, t: Moment, now: Moment) -> Result<
     ensures { result_map_both (λ target. target) refusal_of result
         ≡ walk_at names.now t now path.now }
 {
-    with_fault(ele_names::resolve_at(names, path, t, now))
+    with_fault(ele_names::resolve_at(names, path.kept(), t, now))
 }
 
 /// Returns the directory of the path's last name, and that name, which may be free.
@@ -43,7 +43,7 @@ pub fn resolve_at(names: &Names, path: &Path, t: Moment, now: Moment) -> Result<
 pub fn parent_now(names: &Names, path: &Path) -> Result<(DirId, Name), WalkFault>
     ensures { result_map_both (λ at. at) refusal_of result ≡ parent_now names.now path.now }
 {
-    with_fault(ele_names::parent_now(names, path))
+    with_fault(ele_names::parent_now(names, path.kept()))
 }
 
 // The same result, with the fault that the refusal is.
