@@ -68,14 +68,13 @@ lacking before journal event is = (inr is, (stays before, refl))
 changed_by : (event : Event) (reply : Reply) (b : Bool) → changes event ≡ true → not (is_unchanged reply) ≡ b → counts event reply ≡ b
 changed_by event reply b is not_is = rw (is, not_is) refl
 
--- an event counts if its answer changed something
-counts_as : (before after : Kept) (event : Event) (b : Bool) → changes event ≡ true → has_changed Replied (last_in after) ≡ b → Answered before event after → counts event ((step (world_in before) event).0) ≡ b
-counts_as before after event b is changed done = changed_by event _ b is (sym (ap (has_changed Replied) (answered_last before after event done)) ∙ changed)
+same_reply : (last : Option Reply) (reply : Reply) (b : Bool) → last ≡ Some reply → has_changed Replied last ≡ b → not (is_unchanged reply) ≡ b
+same_reply last reply b is changed = sym (ap (has_changed Replied) is) ∙ changed
 
 -- an event that changed something is under way
 pub under_way : (before after : Kept) (journal : JournalState) (event : Event) (said : Said) → changes event ≡ true → has_changed said (last_in after) ≡ true → Records before event said after → Records (Journaled before journal) event said (Journaled after (adding journal event))
 under_way before after journal event Replied is changed done =
-    with_answer before after journal (adding journal event) event done (counted journal event _ (counts_as before after event true is changed done))
+    with_answer before after journal (adding journal event) event done (counted journal event _ (changed_by event _ true is (same_reply (last_in after) _ true (answered_last before after event done) changed)))
 under_way before after journal event said is changed done = absurd (let never : false ≡ true = changed in cc)
 
 added_last : (xs : List Event) (event : Event) → take (length (xs ++ event ∷ []) - 1) (xs ++ event ∷ []) ≡ xs
@@ -90,7 +89,7 @@ back_is journal added new event add back =
 left : (before after : Kept) (journal : JournalState) (event : Event) (said : Said) → changes event ≡ true → has_changed said (last_in after) ≡ false → Records before event said after
     → Records (Journaled before journal) event said (Journaled after journal)
 left before after journal event Replied is changed done =
-    with_answer before after journal journal event done (uncounted journal event _ (counts_as before after event false is changed done))
+    with_answer before after journal journal event done (uncounted journal event _ (changed_by event _ false is (same_reply (last_in after) _ false (answered_last before after event done) changed)))
 left before after journal event (Stopped stop) is changed done = stopped before after journal event stop done
 left before after journal event said is changed done = absurd done
 

@@ -37,7 +37,9 @@ pub fn pending_of(alloc: Global, keeper: &mut JournaledKeeper) -> Result<Vec<u8>
     ensures err { IfErr result (IsNotGiven (journaled_state keeper.old)) }
     ensures unchanged { OnErr result (journaled_state keeper.new ≡ journaled_state keeper.old) }
 {
-    let journal = keeper.journal.as_mut().ok_or(JournalError::NoJournal)?;
+    let Some(journal) = &mut keeper.journal else {
+        return Err(JournalError::NoJournal);
+    };
     match journal.pending() {
         Ok(Some(bytes)) => Ok(bytes),
         Ok(None) => Ok(Vec::new(alloc)),
@@ -58,11 +60,14 @@ pub fn compact_of(keeper: &mut JournaledKeeper) -> Result<Vec<u8>, JournalError>
     ensures err { IfErr result (IsNotGiven (journaled_state keeper.old)) }
     ensures unchanged { OnErr result (journaled_state keeper.new ≡ journaled_state keeper.old) }
 {
-    let journal = keeper.journal.as_mut().ok_or(JournalError::NoJournal)?;
-    let flat = keeper
-        .bare
-        .core()
-        .flat()
-        .map_err(|_| JournalError::NoMemory)?;
-    journal.compact(&flat).map_err(|_| JournalError::NoMemory)
+    let Some(journal) = &mut keeper.journal else {
+        return Err(JournalError::NoJournal);
+    };
+    let Ok(flat) = keeper.bare.core().flat() else {
+        return Err(JournalError::NoMemory);
+    };
+    match journal.compact(&flat) {
+        Ok(bytes) => Ok(bytes),
+        Err(_) => Err(JournalError::NoMemory),
+    }
 }
